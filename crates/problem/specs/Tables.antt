@@ -1,0 +1,15 @@
+-- How dependencies stand in flat tables: a row for each, and the targets of all rows one after another.
+use Rattle.std.specs.Prelude.{ℕ, Bool, ◌&&◌, nat_le, List, map, length}
+use Rattle.std.specs.List.{slice_range}
+use Rattle.resolver_model.specs.Problems.{Dependency}
+use Rattle.problem.specs.declared.tables.Row.{Row}
+
+abbrev pub dependency_of : List ℕ → Row → Dependency
+dependency_of targets row = record { source = row.source; targets = slice_range targets row.first row.end; soft = row.soft }
+
+-- a row's part of the targets is within them
+abbrev pub is_row : List ℕ → Row → Bool
+is_row targets row = nat_le row.first row.end && nat_le row.end (length targets)
+
+abbrev pub dependencies_of : List ℕ → List Row → List Dependency
+dependencies_of targets rows = map (dependency_of targets) rows

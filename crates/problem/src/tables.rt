@@ -1,0 +1,115 @@
+// The dependencies in two flat tables: one row for each, and the targets of all, one after another.
+ghost use Rattle.std.specs.Prelude.{◌≡◌, ◌<◌, ◌++◌, ◌∷◌, [], length, slice_index_or, is_ok, if◌then◌else◌, IsTrue, vec_len, ℕ};
+ghost use Rattle.std.specs.List.{list_all};
+ghost use Rattle.resolver_model.specs.Problems.{no_dependency};
+ghost use Rattle.problem.specs.Tables.{dependencies_of, is_row};
+
+use choice_set::NoMemory;
+use std::alloc::Global;
+use std::marker::Model;
+
+/// One dependency: its targets stand from `first` to before `end`.
+#[derive(Clone, Copy, Debug, Drop)]
+pub struct Row {
+    pub source: u32,
+    pub first: usize,
+    pub end: usize,
+    pub soft: bool,
+}
+
+/// The dependencies by number.
+#[derive(Debug, Drop)]
+pub struct Tables {
+    rows: Vec<Row>,
+    targets: Vec<u32>,
+}
+
+impl Model for Tables {
+    ghost use Rattle.std.specs.Prelude.{List, IsTrue};
+    ghost use Rattle.std.specs.List.{list_all};
+    ghost use Rattle.resolver_model.specs.Problems as model;
+    ghost use Rattle.problem.specs.Tables.{dependencies_of, is_row};
+
+    ghost Value = { List model.Dependency };
+
+    ghost view = { λ t. dependencies_of t.targets.items t.rows.items };
+
+    ghost invariant = { λ t. IsTrue (list_all (is_row t.targets.items) t.rows.items) };
+}
+
+// Adds a row with its targets; nothing is added where memory is wanting.
+fn add_row(
+    rows: &mut Vec<Row>,
+    table: &mut Vec<u32>,
+    source: u32,
+    targets: &[u32],
+    soft: bool,
+) -> Result<(), NoMemory>
+    requires { IsTrue (list_all (is_row table.old.items) rows.old.items) }
+    ensures rows { IsTrue (list_all (is_row table.new.items) rows.new.items) }
+    ensures view { dependencies_of table.new.items rows.new.items ≡ (if is_ok result then dependencies_of table.old.items rows.old.items ++ record { source = source; targets = targets.now; soft = soft } ∷ [] else dependencies_of table.old.items rows.old.items) }
+{
+    let first = table.len();
+    let Ok(()) = table.extend_from_slice(targets) else {
+        return Err(NoMemory);
+    };
+    let row = Row {
+        source,
+        first,
+        end: table.len(),
+        soft,
+    };
+    match rows.push(row) {
+        Ok(()) => Ok(()),
+        Err(_) => {
+            table.truncate(first);
+            Err(NoMemory)
+        }
+    }
+}
+
+impl Tables {
+    pub fn new(alloc: Global) -> Tables
+        ensures { result ≡ [] }
+    {
+        Tables {
+            rows: Vec::new(alloc),
+            targets: Vec::new(alloc),
+        }
+    }
+
+    pub fn len(&self) -> usize
+        ensures { result ≡ length self.now }
+    {
+        self.rows.len()
+    }
+
+    pub fn source(&self, dep: usize) -> u32
+        requires { dep < length self.now }
+        ensures { result ≡ (slice_index_or self.now dep no_dependency).source }
+    {
+        self.rows[dep].source
+    }
+
+    pub fn is_soft(&self, dep: usize) -> bool
+        requires { dep < length self.now }
+        ensures { result ≡ (slice_index_or self.now dep no_dependency).soft }
+    {
+        self.rows[dep].soft
+    }
+
+    pub fn targets(&self, dep: usize) -> &[u32]
+        requires { dep < length self.now }
+        ensures { result.now ≡ (slice_index_or self.now dep no_dependency).targets }
+    {
+        let row = self.rows[dep];
+        &self.targets[row.first..row.end]
+    }
+
+    /// Adds a dependency at the end.
+    pub fn push(&mut self, source: u32, targets: &[u32], soft: bool) -> Result<(), NoMemory>
+        ensures { self.new ≡ (if is_ok result then self.old ++ record { source = source; targets = targets.now; soft = soft } ∷ [] else self.old) }
+    {
+        add_row(&mut self.rows, &mut self.targets, source, targets, soft)
+    }
+}
