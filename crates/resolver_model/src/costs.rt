@@ -8,7 +8,10 @@ use std::alloc::Global;
 use std::cmp::Ordering;
 use std::marker::Model;
 
-/// A cost, seen as its list of numbers.
+/// What a set of choices costs, seen as its list of numbers: one for each level, the weightiest level first, and last
+/// the number of choices.
+///
+/// Costs are compared level by level: the first number that differs decides, as in aptitude's multi-level costs.
 #[derive(Debug, Drop)]
 pub struct Cost {
     numbers: Vec<u64>,
@@ -21,7 +24,7 @@ impl Model for Cost {
 }
 
 impl Cost {
-    /// The cost with these components.
+    /// The cost with these components, copied. The only error is `NoMemory`.
     pub fn from_parts(alloc: Global, parts: &[u64]) -> Result<Cost, NoMemory>
         ensures { IfOk result (λ cost. cost ≡ parts.now) }
     {
@@ -31,18 +34,21 @@ impl Cost {
         }
     }
 
+    /// The cost with these components. It keeps the list that it is given, and takes no memory.
     pub fn from_vec(numbers: Vec<u64>) -> Cost
         ensures { result ≡ numbers.items }
     {
         Cost { numbers }
     }
 
+    /// The number of components: one more than there are levels.
     pub fn len(&self) -> usize
         ensures { result ≡ length self.now }
     {
         self.numbers.len()
     }
 
+    /// The component at this place, counted from 0; `place` is below the number of components.
     pub fn at(&self, place: usize) -> u64
         requires { place < length self.now }
         ensures { result ≡ slice_index self.now place }
@@ -57,6 +63,7 @@ impl Cost {
         self.numbers.as_slice()
     }
 
+    /// A cost with the same components. The only error is `NoMemory`.
     pub fn copy(&self, alloc: Global) -> Result<Cost, NoMemory>
         ensures { IfOk result (λ cost. cost ≡ self.now) }
     {

@@ -6,15 +6,18 @@ use choice_set::NoMemory;
 use std::alloc::Global;
 use std::marker::Model;
 
-/// What a user said of a choice.
+/// What a user said of a choice, as by the commands `reject` and `approve` of aptitude's dialogue.
 #[derive(Clone, Copy, Debug, PartialEq, Eq)]
 pub enum Mark {
+    /// Nothing, or that an earlier mark no longer holds.
     Free,
+    /// Each solution has to have it.
     Approved,
+    /// No solution may have it.
     Rejected,
 }
 
-/// Choices with their marks.
+/// A list of choices with their marks, seen as the list of its pairs.
 #[derive(Debug, Drop)]
 pub struct Marks {
     items: Vec<(u32, Mark)>,
@@ -27,6 +30,7 @@ impl Model for Marks {
 }
 
 impl Marks {
+    /// The empty list. It takes no memory.
     pub fn new(alloc: Global) -> Marks
         ensures { result ≡ [] }
     {
@@ -35,6 +39,7 @@ impl Marks {
         }
     }
 
+    /// Puts a choice with its mark at the end. After `NoMemory` the list is as before.
     pub fn push(&mut self, item: (u32, Mark)) -> Result<(), NoMemory>
         ensures { self.new ≡ (if is_ok result then self.old ++ item ∷ [] else self.old) }
     {
@@ -44,12 +49,14 @@ impl Marks {
         }
     }
 
+    /// The number of pairs.
     pub fn len(&self) -> usize
         ensures { result ≡ length self.now }
     {
         self.items.len()
     }
 
+    /// The pair at this place, counted from 0; `place` is below the number of pairs.
     pub fn at(&self, place: usize) -> &(u32, Mark)
         requires { place < length self.now }
         ensures { result.now ≡ slice_index_or self.now place result.now }
@@ -57,6 +64,7 @@ impl Marks {
         &self.items[place]
     }
 
+    /// All pairs in order.
     pub fn as_slice(&self) -> &[(u32, Mark)]
         ensures { result.now ≡ self.now }
     {
@@ -64,7 +72,8 @@ impl Marks {
     }
 }
 
-/// Caps: levels, counted from 0, each with the most that a cost may have there.
+/// A list of caps, seen as the list of its pairs: a level of the cost, counted from 0, and the most that a cost may
+/// have there.
 #[derive(Debug, Drop)]
 pub struct Caps {
     items: Vec<(u32, u64)>,
@@ -77,6 +86,7 @@ impl Model for Caps {
 }
 
 impl Caps {
+    /// The empty list. It takes no memory.
     pub fn new(alloc: Global) -> Caps
         ensures { result ≡ [] }
     {
@@ -85,6 +95,7 @@ impl Caps {
         }
     }
 
+    /// Puts a level with its most at the end. After `NoMemory` the list is as before.
     pub fn push(&mut self, item: (u32, u64)) -> Result<(), NoMemory>
         ensures { self.new ≡ (if is_ok result then self.old ++ item ∷ [] else self.old) }
     {
@@ -94,12 +105,14 @@ impl Caps {
         }
     }
 
+    /// The number of pairs.
     pub fn len(&self) -> usize
         ensures { result ≡ length self.now }
     {
         self.items.len()
     }
 
+    /// The pair at this place, counted from 0; `place` is below the number of pairs.
     pub fn at(&self, place: usize) -> &(u32, u64)
         requires { place < length self.now }
         ensures { result.now ≡ slice_index_or self.now place result.now }
@@ -107,6 +120,7 @@ impl Caps {
         &self.items[place]
     }
 
+    /// All pairs in order.
     pub fn as_slice(&self) -> &[(u32, u64)]
         ensures { result.now ≡ self.now }
     {
