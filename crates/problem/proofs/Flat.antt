@@ -1,12 +1,14 @@
 -- A flat table keeps its rows while more targets come behind them.
 use Rattle.std.proofs.Common.{◌≡◌, ◌≤◌, ◌+◌, ◌-◌, ℕ, List, [], ◌∷◌, ◌++◌, true, ◌&&◌, length, take, drop, map, refl, ap, sym, ◌∙◌, arith, nat_le, length-append, Bool}
-use Rattle.std.specs.List.{list_all, slice_range}
+use Rattle.std.specs.List.{list_all, slice_range, sum_by}
+use Rattle.std.proofs.lemmas.List.Sums.{sum_by_push}
 use Rattle.std.proofs.lemmas.List.{take-append-le, drop-append-le, length-drop, map-append}
 use Rattle.std.proofs.lemmas.List.Folds.{list_all-append}
 use Rattle.std.proofs.Math.Seq.{drop-append_seam}
 use Rattle.std.proofs.lemmas.Bool.{and_from, and_parts, leb-true, le-leb}
 use Rattle.problem.specs.declared.tables.Row.{Row}
-use Rattle.problem.specs.Tables.{dependency_of, dependencies_of, is_row}
+use Rattle.resolver_model.specs.Problems.{Dependency}
+use Rattle.problem.specs.Tables.{dependency_of, dependencies_of, is_row, AreTables}
 
 range_more : (xs ys : List ℕ) (a b : ℕ) → a ≤ b → b ≤ length xs → slice_range (xs ++ ys) a b ≡ slice_range xs a b
 range_more xs ys a b h k =
@@ -60,3 +62,12 @@ view_pushed rows xs ys zs source first end soft e f g h =
     let old : dependencies_of zs rows ≡ dependencies_of xs rows = rw e (rows_more rows xs ys h) in
     let own : slice_range zs first end ≡ ys = rw (f, g, e) (range_end xs ys) in
     map-append (dependency_of zs) rows (row ∷ []) ∙ rw (old, own) refl
+
+pub tables_pushed : (rows : List Row) (xs ys zs : List ℕ) (source first end : ℕ) (soft : Bool) → zs ≡ xs ++ ys → first ≡ length xs → end ≡ length zs → AreTables xs rows
+    → AreTables zs (rows ++ last_row source first end soft ∷ [])
+tables_pushed rows xs ys zs source first end soft e f g h =
+    let d : Dependency = record { source = source; targets = ys; soft = soft } in
+    let size : length zs ≡ sum_by (λ (d : Dependency). length d.targets) (dependencies_of zs (rows ++ last_row source first end soft ∷ [])) =
+    rw (view_pushed rows xs ys zs source first end soft e f g h.parts)
+    (omega (arith, ap length e, length-append xs ys, h.size, sum_by_push (λ (d : Dependency). length d.targets) (dependencies_of xs rows) d)) in
+    record { parts = all_pushed rows xs ys zs source first end soft e f g h.parts; size = size }

@@ -1,1 +1,6 @@
 pub mod Flat
+pub mod Ranges
+pub mod Kept
+pub mod Resolving
+pub mod Merged
+pub mod Sets

@@ -1,3 +1,6 @@
 pub mod Kinds
+pub mod Limits
 pub mod Builds
 pub mod Tables
+pub mod Places
+pub mod Resolving

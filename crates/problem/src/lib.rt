@@ -1,16 +1,31 @@
-//! The abstract dependency problem, and what a set of choices does to it.
+//! The dependency problem: packages with their versions, dependencies between versions, and what a set of choices does
+//! to them.
+//!
+//! Versions are numbered over the packages in order; the first version of each package stands for its being absent. A
+//! choice installs a version that is not its package's start version, and has the version's number; or it leaves a soft
+//! dependency unmet, and has the number of versions plus the dependency's.
 #![tactic(auto)]
 
 ghost use Rattle.std.specs.Prelude.{vec_len, is_ok, if◌then◌else◌, ◌≡◌, ◌<◌, ◌≤◌, ◌+◌, ◌-◌, ◌^◌, ℕ, Bool, List, [], ◌∷◌, ◌++◌, length, slice_index, replicate, nat_lt, true, IsTrue, IfOk, OnOk, OnErr};
-ghost use Rattle.std.specs.List.{list_all, list_any, find};
+ghost use Rattle.std.specs.List.{list_all, list_any, find, count_by};
 ghost use Rattle.choice_set.specs.Sets.{is_rising};
 ghost use Rattle.problem.specs.Kinds.{kind_of};
-ghost use Rattle.problem.specs.Builds.{no_packages, with_package, with_dependency};
-ghost use Rattle.resolver_model.specs.Problems.{is_choice, choices, installs_of, version_count, package_count, dependency_count, package_of, start_of, dependency, is_choice_set, is_install, is_leave, changes, state, is_in_state, is_consistent, is_broken, is_open, is_nothing_open, is_solution};
+ghost use Rattle.problem.specs.Limits.{end_past, IsAnswer, IsWithinLimits, package_refusal, dependency_refusal, target_count};
+ghost use Rattle.problem.specs.Builds.{no_packages, with_package, with_dependency, with_starts};
+ghost use Rattle.problem.specs.Places.{absent_of, end_of, IsOneOfEach};
+ghost use Rattle.problem.specs.Resolving.{is_free_install, free_targets, free_versions, leave_choices};
+ghost use Rattle.resolver_model.specs.Problems.{is_choice, choices, installs_of, version_count, package_count, dependency_count, package_of, start_of, dependency, is_choice_set, is_install, is_leave, changes, state, is_in_state, is_consistent, is_broken, is_open, is_nothing_open, is_solution, resolvers, IsWellFormed};
 
+mod limits;
 mod tables;
+#[cfg(test)]
+mod tests;
 
-use choice_set::{ChoiceSet, NoMemory};
+use choice_set::ChoiceSet;
+pub use choice_set::NoMemory;
+pub use limits::{
+    MOST_DEPENDENCIES, MOST_PACKAGES, MOST_TARGETS, MOST_VERSIONS, ProblemEnd, Which,
+};
 use std::alloc::Global;
 use std::marker::Model;
 use tables::Tables;
@@ -18,46 +33,88 @@ use tables::Tables;
 /// What a number stands for.
 #[derive(Clone, Copy, Debug, PartialEq, Eq)]
 pub enum Kind {
+    /// The choice that installs this version.
     Install(u32),
+    /// The choice that leaves this soft dependency unmet.
     Leave(u32),
+    /// No choice at all.
     NoChoice,
 }
 
-/// The packages, versions and dependencies.
+/// The packages, versions and dependencies, each numbered from 0.
 #[derive(Debug, Drop)]
 pub struct Problem {
+    // the package of each version
     owners: Vec<u32>,
+    // the start version of each package
     starts: Vec<u32>,
+    // the first version of each package
+    firsts: Vec<u32>,
     dependencies: Tables,
 }
 
 impl Model for Problem {
     ghost use Rattle.resolver_model.specs.Problems as model;
+    ghost use Rattle.problem.specs.Places.{IsKept};
 
     ghost Value = { model.Problem };
 
     ghost view = { λ p. record { owners = p.owners.items; starts = p.starts.items; dependencies = p.dependencies } };
 
-    ghost invariant = { λ p. model.IsWellFormed (record { owners = p.owners.items; starts = p.starts.items; dependencies = p.dependencies }) };
+    ghost invariant = { λ p. IsKept (record { owners = p.owners.items; starts = p.starts.items; dependencies = p.dependencies }) p.firsts.items };
 }
 
 impl Problem {
+    // What refuses a package of so many versions.
+    fn package_refusal(&self, present: u32) -> Option<ProblemEnd>
+        ensures { result ≡ package_refusal self.now present }
+    {
+        if self.starts.len() + 1 > MOST_PACKAGES {
+            Some(limit(Which::Packages, MOST_PACKAGES))
+        } else if self.owners.len() + present as usize + 1 > MOST_VERSIONS {
+            Some(limit(Which::Versions, MOST_VERSIONS))
+        } else {
+            None
+        }
+    }
+
+    // What refuses a dependency on these targets.
+    fn dependency_refusal(&self, targets: &[u32]) -> Option<ProblemEnd>
+        ensures { result ≡ dependency_refusal self.now targets.now }
+    {
+        if self.dependencies.len() + 1 > MOST_DEPENDENCIES {
+            Some(limit(Which::Dependencies, MOST_DEPENDENCIES))
+        } else if self.dependencies.target_count() + targets.len() > MOST_TARGETS {
+            Some(limit(Which::Targets, MOST_TARGETS))
+        } else {
+            None
+        }
+    }
+
+    // One more package, which no limit refuses.
     fn add_package(&mut self, present: u32, start: u32) -> Result<u32, NoMemory>
         requires inside { start ≤ present }
         requires before_dependencies { self.old.dependencies ≡ [] }
-        requires room { version_count self.old + present + 1 < 2 ^ 32 }
+        requires within { package_refusal self.old present ≡ None }
         ensures ok { IfOk result (λ number. number ≡ package_count self.old) }
         ensures after { self.new ≡ (if is_ok result then with_package self.old present start else self.old) }
     {
-        let number = add_package(&mut self.owners, &mut self.starts, present, start)?;
+        let number = add_package(
+            &mut self.owners,
+            &mut self.starts,
+            &mut self.firsts,
+            present,
+            start,
+        )?;
         Ok(number)
     }
 
+    // One more dependency, which no limit refuses.
     fn add_dep(&mut self, source: u32, targets: &[u32], soft: bool) -> Result<u32, NoMemory>
         requires source { source < version_count self.old }
         requires rising { IsTrue (is_rising targets.now) }
         requires range { IsTrue (list_all (λ v. nat_lt v (version_count self.old)) targets.now) }
-        requires room { version_count self.old + dependency_count self.old + 1 < 2 ^ 32 }
+        requires within { dependency_refusal self.old targets.now ≡ None }
         ensures ok { IfOk result (λ number. number ≡ dependency_count self.old) }
         ensures after { self.new ≡ (if is_ok result then with_dependency self.old (record { source = source; targets = targets.now; soft = soft }) else self.old) }
     {
@@ -66,24 +123,54 @@ impl Problem {
         Ok(number)
     }
 
+    /// The same packages and dependencies with other start versions, one for each package in order.
+    pub fn with_starts(&self, alloc: Global, starts: &[u32]) -> Result<Problem, NoMemory>
+        requires { IsOneOfEach self.now starts.now }
+        ensures { IfOk result (λ other. other ≡ with_starts self.now starts.now) }
+    {
+        let Ok(owners) = Vec::from_slice(alloc, self.owners.as_slice()) else {
+            return Err(NoMemory);
+        };
+        let Ok(starts) = Vec::from_slice(alloc, starts) else {
+            return Err(NoMemory);
+        };
+        let Ok(firsts) = Vec::from_slice(alloc, self.firsts.as_slice()) else {
+            return Err(NoMemory);
+        };
+        let dependencies = self.dependencies.copy(alloc)?;
+        Ok(Problem {
+            owners,
+            starts,
+            firsts,
+            dependencies,
+        })
+    }
+
+    /// How many packages there are.
     pub fn packages(&self) -> u32
         ensures { result ≡ package_count self.now }
     {
         self.starts.len() as u32
     }
 
+    /// How many versions there are, the absent ones included. It also tells that the numbers of the problem are in range
+    /// and within the limits.
     pub fn versions(&self) -> u32
-        ensures { result ≡ version_count self.now }
+        ensures count { result ≡ version_count self.now }
+        ensures formed { IsWellFormed self.now }
+        ensures within { IsWithinLimits self.now }
     {
         self.owners.len() as u32
     }
 
+    /// How many dependencies there are.
     pub fn deps(&self) -> u32
         ensures { result ≡ dependency_count self.now }
     {
         self.dependencies.len() as u32
     }
 
+    /// The package of a version.
     pub fn package_of(&self, version: u32) -> u32
         requires { version < version_count self.now }
         ensures package { result ≡ package_of self.now version }
@@ -92,6 +179,30 @@ impl Problem {
         self.owners[version as usize]
     }
 
+    /// The first version of a package, which stands for its being absent.
+    pub fn absent_of(&self, package: u32) -> u32
+        requires { «package» < package_count self.now }
+        ensures absent { result ≡ absent_of self.now «package» }
+        ensures range { result < version_count self.now }
+        ensures own { package_of self.now result ≡ «package» }
+    {
+        self.firsts[package as usize]
+    }
+
+    /// The number after the package's last version.
+    pub fn end_of(&self, package: u32) -> u32
+        requires { «package» < package_count self.now }
+        ensures end { result ≡ end_of self.now «package» }
+        ensures range { result ≤ version_count self.now }
+    {
+        if (package as usize) + 1 < self.firsts.len() {
+            self.firsts[package as usize + 1]
+        } else {
+            self.owners.len() as u32
+        }
+    }
+
+    /// The start version of a package.
     pub fn start_of(&self, package: u32) -> u32
         requires { «package» < package_count self.now }
         ensures start { result ≡ start_of self.now «package» }
@@ -101,6 +212,7 @@ impl Problem {
         self.starts[package as usize]
     }
 
+    /// The version that needs one of the dependency's targets.
     pub fn source(&self, dep: u32) -> u32
         requires { dep < dependency_count self.now }
         ensures source { result ≡ (dependency self.now dep).source }
@@ -109,6 +221,7 @@ impl Problem {
         self.dependencies.source(dep as usize)
     }
 
+    /// Whether the dependency may be left unmet.
     pub fn is_soft(&self, dep: u32) -> bool
         requires { dep < dependency_count self.now }
         ensures { result ≡ (dependency self.now dep).soft }
@@ -116,6 +229,7 @@ impl Problem {
         self.dependencies.is_soft(dep as usize)
     }
 
+    /// The versions of which the dependency needs one, rising.
     pub fn targets(&self, dep: u32) -> &[u32]
         requires { dep < dependency_count self.now }
         ensures targets { result.now ≡ (dependency self.now dep).targets }
@@ -132,12 +246,14 @@ impl Problem {
         (choice as usize) < self.owners.len() && self.owners[choice as usize] == package
     }
 
+    // Whether one of the choices installs a version of the package.
     fn any_installs(&self, items: &[u32], package: u32) -> bool
         ensures { result ≡ list_any (installs_of self.now «package») items.now }
     {
         items.iter().any(|choice| self.installs(*choice, package))
     }
 
+    // The first of the choices that installs a version of the package.
     fn first_install(&self, items: &[u32], package: u32) -> Option<u32>
         ensures { result ≡ find (installs_of self.now «package») items.now }
     {
@@ -147,13 +263,14 @@ impl Problem {
             .find(|choice| self.installs(*choice, package))
     }
 
+    /// Whether the set installs a version of the package.
     pub fn changes(&self, set: &ChoiceSet, package: u32) -> bool
         ensures { result ≡ changes self.now set.now «package» }
     {
         self.any_installs(set.as_slice(), package)
     }
 
-    /// The version of a package under a set.
+    /// The version of a package under a set: the least one that the set installs, or else the start version.
     pub fn state(&self, set: &ChoiceSet, package: u32) -> u32
         requires { «package» < package_count self.now }
         ensures { result ≡ state self.now set.now «package» }
@@ -164,6 +281,7 @@ impl Problem {
         }
     }
 
+    // Whether the version is the one of its package under the set.
     fn is_in_state(&self, set: &ChoiceSet, version: u32) -> bool
         requires { version < version_count self.now }
         ensures { result ≡ is_in_state self.now set.now version }
@@ -171,6 +289,7 @@ impl Problem {
         self.state(set, self.package_of(version)) == version
     }
 
+    // Whether one of the versions is the one of its package under the set.
     fn is_any_in_state(&self, set: &ChoiceSet, versions: &[u32]) -> bool
         requires { IsTrue (list_all (λ v. nat_lt v (version_count self.now)) versions.now) }
         ensures { result ≡ list_any (is_in_state self.now set.now) versions.now }
@@ -183,6 +302,7 @@ impl Problem {
         false
     }
 
+    /// Whether the dependency's source is in the state of the set and none of its targets is.
     pub fn is_broken(&self, set: &ChoiceSet, dep: u32) -> bool
         requires { dep < dependency_count self.now }
         ensures { result ≡ is_broken self.now set.now dep }
@@ -190,6 +310,7 @@ impl Problem {
         self.is_in_state(set, self.source(dep)) && !self.is_any_in_state(set, self.targets(dep))
     }
 
+    /// Whether the dependency is broken at the set, and not left by it.
     pub fn is_open(&self, set: &ChoiceSet, dep: u32) -> bool
         requires { dep < dependency_count self.now }
         ensures { result ≡ is_open self.now set.now dep }
@@ -198,6 +319,7 @@ impl Problem {
         self.is_broken(set, dep) && !(self.is_soft(dep) && set.contains(self.versions() + dep))
     }
 
+    /// Whether the set installs at most one version of each package.
     pub fn is_consistent(&self, set: &ChoiceSet) -> bool
         ensures { result ≡ is_consistent self.now set.now }
     {
@@ -213,6 +335,7 @@ impl Problem {
         true
     }
 
+    // Whether no dependency is open at the set.
     fn is_nothing_open(&self, set: &ChoiceSet) -> bool
         ensures { result ≡ is_nothing_open self.now set.now }
     {
@@ -224,6 +347,7 @@ impl Problem {
         true
     }
 
+    /// Whether the set is consistent and no dependency is open at it.
     pub fn is_solution(&self, set: &ChoiceSet) -> bool
         requires { IsTrue (is_choice_set self.now set.now) }
         ensures { result ≡ is_solution self.now set.now }
@@ -231,6 +355,7 @@ impl Problem {
         self.is_consistent(set) && self.is_nothing_open(set)
     }
 
+    /// What any number stands for.
     pub fn kind(&self, choice: u32) -> Kind
         ensures { result ≡ kind_of self.now choice }
     {
@@ -247,13 +372,14 @@ impl Problem {
         }
     }
 
+    /// Whether a number is a choice.
     pub fn is_choice(&self, choice: u32) -> bool
         ensures { result ≡ is_choice self.now choice }
     {
         !matches!(self.kind(choice), Kind::NoChoice)
     }
 
-    /// All choices, in order.
+    /// All choices, rising.
     pub fn choices(&self, alloc: Global) -> Result<Vec<u32>, NoMemory>
         ensures { IfOk result (λ list. list.items ≡ choices self.now) }
     {
@@ -267,6 +393,92 @@ impl Problem {
             }
         }
         Ok(list)
+    }
+
+    // Whether a number is an install on a package that the set does not change.
+    fn is_free_install(&self, set: &ChoiceSet, choice: u32) -> bool
+        ensures { result ≡ is_free_install self.now set.now choice }
+    {
+        match self.kind(choice) {
+            Kind::Install(version) => !self.changes(set, self.package_of(version)),
+            _ => false,
+        }
+    }
+
+    // Adds the free installs among the targets from `first` to before `end`.
+    fn push_targets(
+        &self,
+        list: &mut Vec<u32>,
+        set: &ChoiceSet,
+        dep: u32,
+        first: u32,
+        end: u32,
+    ) -> Result<(), NoMemory>
+        requires { dep < dependency_count self.now }
+        ensures { OnOk result (list.new.items ≡ list.old.items ++ free_targets self.now set.now dep first end) }
+    {
+        for target in self.targets(dep) {
+            if first <= *target && *target < end && self.is_free_install(set, *target) {
+                let Ok(()) = list.push(*target) else {
+                    return Err(NoMemory);
+                };
+            }
+        }
+        Ok(())
+    }
+
+    // Adds the free installs from `first` to before `end`.
+    fn push_versions(
+        &self,
+        list: &mut Vec<u32>,
+        set: &ChoiceSet,
+        first: u32,
+        end: u32,
+    ) -> Result<(), NoMemory>
+        requires { first ≤ end }
+        ensures { OnOk result (list.new.items ≡ list.old.items ++ free_versions self.now set.now first end) }
+    {
+        for version in first..end {
+            if self.is_free_install(set, version) {
+                let Ok(()) = list.push(version) else {
+                    return Err(NoMemory);
+                };
+            }
+        }
+        Ok(())
+    }
+
+    // Adds the leave choice of a soft dependency.
+    fn push_leave(&self, list: &mut Vec<u32>, dep: u32) -> Result<(), NoMemory>
+        requires { dep < dependency_count self.now }
+        ensures { OnOk result (list.new.items ≡ list.old.items ++ leave_choices self.now dep) }
+    {
+        let leave = self.versions() + dep;
+        if self.is_soft(dep) {
+            let Ok(()) = list.push(leave) else {
+                return Err(NoMemory);
+            };
+        }
+        Ok(())
+    }
+
+    /// The resolvers of a dependency that is open at the set, rising: the installs of a target, or of another version of
+    /// the source's package, on packages that the set does not change; and the leave choice, if the dependency is soft.
+    pub fn resolvers(&self, alloc: Global, dep: u32, set: &ChoiceSet) -> Result<ChoiceSet, NoMemory>
+        requires range { dep < dependency_count self.now }
+        requires open { IsTrue (is_open self.now set.now dep) }
+        ensures { IfOk result (λ list. list ≡ resolvers self.now set.now dep) }
+    {
+        let package = self.package_of(self.source(dep));
+        let first = self.absent_of(package);
+        let end = self.end_of(package);
+        let versions = self.versions();
+        let mut list = Vec::new(alloc);
+        self.push_targets(&mut list, set, dep, 0, first)?;
+        self.push_versions(&mut list, set, first, end)?;
+        self.push_targets(&mut list, set, dep, end, versions)?;
+        self.push_leave(&mut list, dep)?;
+        ChoiceSet::from_list(alloc, list.as_slice())
     }
 }
 
@@ -284,10 +496,22 @@ impl Model for Builder {
     ghost view = { λ b. b.problem };
 }
 
+// The end of a call whose count would exceed the most that there may be.
+fn limit(which: Which, most: usize) -> ProblemEnd
+    requires { most < 2 ^ 32 }
+    ensures { result ≡ end_past which most }
+{
+    ProblemEnd::Limit {
+        which,
+        count: most as u64 + 1,
+    }
+}
+
 // One more package, of which nothing is added after a failure.
 fn add_package(
     owners: &mut Vec<u32>,
     starts: &mut Vec<u32>,
+    firsts: &mut Vec<u32>,
     present: u32,
     start: u32,
 ) -> Result<u32, NoMemory>
@@ -295,6 +519,7 @@ fn add_package(
     requires room { vec_len owners.old + present + 1 < 2 ^ 32 }
     requires packages { vec_len starts.old < 2 ^ 32 }
     ensures owners { owners.new.items ≡ (if is_ok result then owners.old.items ++ replicate (present + 1) (vec_len starts.old) else owners.old.items) }
+    ensures firsts { firsts.new.items ≡ (if is_ok result then firsts.old.items ++ vec_len owners.old ∷ [] else firsts.old.items) }
     ensures starts { starts.new.items ≡ (if is_ok result then starts.old.items ++ (vec_len owners.old + start) ∷ [] else starts.old.items) }
     ensures number { IfOk result (λ number. number ≡ vec_len starts.old) }
 {
@@ -303,14 +528,20 @@ fn add_package(
     let Ok(()) = starts.push(first + start) else {
         return Err(NoMemory);
     };
+    let Ok(()) = firsts.push(first) else {
+        let _ = starts.pop();
+        return Err(NoMemory);
+    };
     let Ok(()) = owners.resize((first + present + 1) as usize, number) else {
         let _ = starts.pop();
+        let _ = firsts.pop();
         return Err(NoMemory);
     };
     Ok(number)
 }
 
 impl Builder {
+    /// A problem without packages.
     pub fn new(alloc: Global) -> Builder
         ensures { result ≡ no_packages }
     {
@@ -318,34 +549,49 @@ impl Builder {
             problem: Problem {
                 owners: Vec::new(alloc),
                 starts: Vec::new(alloc),
+                firsts: Vec::new(alloc),
                 dependencies: Tables::new(alloc),
             },
         }
     }
 
-    /// Adds a package with absent and so many further versions, and gives its number.
-    pub fn add_package(&mut self, present: u32, start: u32) -> Result<u32, NoMemory>
+    /// Adds a package with absent and so many further versions, and gives its number. `start` is the place of its start
+    /// version among them, where 0 is absent. All packages are added before the first dependency. A refused call changes
+    /// nothing.
+    pub fn add_package(&mut self, present: u32, start: u32) -> Result<u32, ProblemEnd>
         requires inside { start ≤ present }
         requires before_dependencies { self.old.dependencies ≡ [] }
-        requires room { version_count self.old + present + 1 < 2 ^ 32 }
-        ensures ok { IfOk result (λ number. number ≡ package_count self.old) }
+        ensures answer { IsAnswer (package_refusal self.old present) (package_count self.old) result }
         ensures after { self.new ≡ (if is_ok result then with_package self.old present start else self.old) }
     {
-        self.problem.add_package(present, start)
+        if let Some(end) = self.problem.package_refusal(present) {
+            return Err(end);
+        }
+        match self.problem.add_package(present, start) {
+            Ok(number) => Ok(number),
+            Err(_) => Err(ProblemEnd::NoMemory),
+        }
     }
 
-    /// Adds a dependency, and gives its number.
-    pub fn add_dep(&mut self, source: u32, targets: &[u32], soft: bool) -> Result<u32, NoMemory>
+    /// Adds a dependency of the version `source` on one of the rising `targets`, and gives its number. A soft one may be
+    /// left unmet. A refused call changes nothing.
+    pub fn add_dep(&mut self, source: u32, targets: &[u32], soft: bool) -> Result<u32, ProblemEnd>
         requires source { source < version_count self.old }
         requires rising { IsTrue (is_rising targets.now) }
         requires range { IsTrue (list_all (λ v. nat_lt v (version_count self.old)) targets.now) }
-        requires room { version_count self.old + dependency_count self.old + 1 < 2 ^ 32 }
-        ensures ok { IfOk result (λ number. number ≡ dependency_count self.old) }
+        ensures answer { IsAnswer (dependency_refusal self.old targets.now) (dependency_count self.old) result }
         ensures after { self.new ≡ (if is_ok result then with_dependency self.old (record { source = source; targets = targets.now; soft = soft }) else self.old) }
     {
-        self.problem.add_dep(source, targets, soft)
+        if let Some(end) = self.problem.dependency_refusal(targets) {
+            return Err(end);
+        }
+        match self.problem.add_dep(source, targets, soft) {
+            Ok(number) => Ok(number),
+            Err(_) => Err(ProblemEnd::NoMemory),
+        }
     }
 
+    /// The problem as it was built.
     pub fn finish(self) -> Problem
         ensures { result ≡ self }
     {

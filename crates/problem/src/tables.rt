@@ -1,8 +1,9 @@
 // The dependencies in two flat tables: one row for each, and the targets of all, one after another.
 ghost use Rattle.std.specs.Prelude.{◌≡◌, ◌<◌, ◌++◌, ◌∷◌, [], length, slice_index_or, is_ok, if◌then◌else◌, IsTrue, vec_len, ℕ};
-ghost use Rattle.std.specs.List.{list_all};
+ghost use Rattle.std.specs.Prelude.{IfOk};
+ghost use Rattle.std.specs.List.{sum_by};
 ghost use Rattle.resolver_model.specs.Problems.{no_dependency};
-ghost use Rattle.problem.specs.Tables.{dependencies_of, is_row};
+ghost use Rattle.problem.specs.Tables.{dependencies_of, AreTables};
 
 use choice_set::NoMemory;
 use std::alloc::Global;
@@ -25,16 +26,15 @@ pub struct Tables {
 }
 
 impl Model for Tables {
-    ghost use Rattle.std.specs.Prelude.{List, IsTrue};
-    ghost use Rattle.std.specs.List.{list_all};
+    ghost use Rattle.std.specs.Prelude.{List};
     ghost use Rattle.resolver_model.specs.Problems as model;
-    ghost use Rattle.problem.specs.Tables.{dependencies_of, is_row};
+    ghost use Rattle.problem.specs.Tables.{dependencies_of, AreTables};
 
     ghost Value = { List model.Dependency };
 
     ghost view = { λ t. dependencies_of t.targets.items t.rows.items };
 
-    ghost invariant = { λ t. IsTrue (list_all (is_row t.targets.items) t.rows.items) };
+    ghost invariant = { λ t. AreTables t.targets.items t.rows.items };
 }
 
 // Adds a row with its targets; nothing is added where memory is wanting.
@@ -45,8 +45,8 @@ fn add_row(
     targets: &[u32],
     soft: bool,
 ) -> Result<(), NoMemory>
-    requires { IsTrue (list_all (is_row table.old.items) rows.old.items) }
-    ensures rows { IsTrue (list_all (is_row table.new.items) rows.new.items) }
+    requires { AreTables table.old.items rows.old.items }
+    ensures tables { AreTables table.new.items rows.new.items }
     ensures view { dependencies_of table.new.items rows.new.items ≡ (if is_ok result then dependencies_of table.old.items rows.old.items ++ record { source = source; targets = targets.now; soft = soft } ∷ [] else dependencies_of table.old.items rows.old.items) }
 {
     let first = table.len();
@@ -69,6 +69,7 @@ fn add_row(
 }
 
 impl Tables {
+    /// No dependencies.
     pub fn new(alloc: Global) -> Tables
         ensures { result ≡ [] }
     {
@@ -78,12 +79,21 @@ impl Tables {
         }
     }
 
+    /// How many dependencies there are.
     pub fn len(&self) -> usize
         ensures { result ≡ length self.now }
     {
         self.rows.len()
     }
 
+    /// How many targets all dependencies have together.
+    pub fn target_count(&self) -> usize
+        ensures { result ≡ sum_by (λ d. length d.targets) self.now }
+    {
+        self.targets.len()
+    }
+
+    /// The version that needs one of the targets.
     pub fn source(&self, dep: usize) -> u32
         requires { dep < length self.now }
         ensures { result ≡ (slice_index_or self.now dep no_dependency).source }
@@ -91,6 +101,7 @@ impl Tables {
         self.rows[dep].source
     }
 
+    /// Whether the dependency may be left unmet.
     pub fn is_soft(&self, dep: usize) -> bool
         requires { dep < length self.now }
         ensures { result ≡ (slice_index_or self.now dep no_dependency).soft }
@@ -98,6 +109,7 @@ impl Tables {
         self.rows[dep].soft
     }
 
+    /// The versions of which one is needed.
     pub fn targets(&self, dep: usize) -> &[u32]
         requires { dep < length self.now }
         ensures { result.now ≡ (slice_index_or self.now dep no_dependency).targets }
@@ -111,5 +123,18 @@ impl Tables {
         ensures { self.new ≡ (if is_ok result then self.old ++ record { source = source; targets = targets.now; soft = soft } ∷ [] else self.old) }
     {
         add_row(&mut self.rows, &mut self.targets, source, targets, soft)
+    }
+
+    /// The same dependencies once more.
+    pub fn copy(&self, alloc: Global) -> Result<Tables, NoMemory>
+        ensures { IfOk result (λ tables. tables ≡ self.now) }
+    {
+        let Ok(rows) = Vec::from_slice(alloc, self.rows.as_slice()) else {
+            return Err(NoMemory);
+        };
+        match Vec::from_slice(alloc, self.targets.as_slice()) {
+            Ok(targets) => Ok(Tables { rows, targets }),
+            Err(_) => Err(NoMemory),
+        }
     }
 }

@@ -1,15 +1,15 @@
 use Rattle.std.proofs.Common.{rules, ◌≡◌, ◌++◌, length}
-use Rattle.problem.proofs.Flat.{all_pushed, view_pushed}
+use Rattle.problem.proofs.Flat.{tables_pushed, view_pushed}
 use Rattle.problem.proofs.tables.add_row.Goals as goal
 
-pub returns-in-Ok-push-clause-rows : goal.returns-in-Ok-push-clause-rows
-returns-in-Ok-push-clause-rows c =
+pub returns-in-Ok-push-clause-tables : goal.returns-in-Ok-push-clause-tables
+returns-in-Ok-push-clause-tables c =
     let first : c.len-first.result ≡ length c.args.table.now.items = search rules in
     let end : c.len.result ≡ length c.extend_from_slice.new.self.items = search rules in
-    rw c.in-Ok-push.ensures.items (all_pushed c.args.rows.now.items c.args.table.now.items c.args.targets.now c.extend_from_slice.new.self.items c.args.source c.len-first.result c.len.result c.args.soft c.in-Ok.ensures.items first end c.requires)
+    rw c.in-Ok-push.ensures.items (tables_pushed c.args.rows.now.items c.args.table.now.items c.args.targets.now c.extend_from_slice.new.self.items c.args.source c.len-first.result c.len.result c.args.soft c.in-Ok.ensures.items first end c.requires)
 
 pub returns-in-Ok-push-clause-view : goal.returns-in-Ok-push-clause-view
 returns-in-Ok-push-clause-view c =
     let first : c.len-first.result ≡ length c.args.table.now.items = search rules in
     let end : c.len.result ≡ length c.extend_from_slice.new.self.items = search rules in
-    rw c.in-Ok-push.ensures.items (view_pushed c.args.rows.now.items c.args.table.now.items c.args.targets.now c.extend_from_slice.new.self.items c.args.source c.len-first.result c.len.result c.args.soft c.in-Ok.ensures.items first end c.requires)
+    rw c.in-Ok-push.ensures.items (view_pushed c.args.rows.now.items c.args.table.now.items c.args.targets.now c.extend_from_slice.new.self.items c.args.source c.len-first.result c.len.result c.args.soft c.in-Ok.ensures.items first end c.requires.parts)

@@ -1,0 +1,5 @@
+pub mod Beginnings
+pub mod Cuts
+pub mod Keys
+pub mod Numbers
+pub mod Turns

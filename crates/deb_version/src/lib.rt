@@ -1,0 +1,427 @@
+//! Versions of Debian packages (Debian Policy 5.6.12): their parts and their order.
+#![tactic(auto)]
+
+ghost use Rattle.std.specs.Prelude.{◌≤◌, ℤ, length, drop, map, ◌==◌, ◌≡◌, ℕ, [], true, cond, reverse, Option, Some, None, IfOk, IfErr, is_ok, position};
+ghost use Rattle.std.specs.List.{list_any, list_all, prefix_len, before_last, after_last};
+ghost use Rattle.std.specs.Char.{is_ascii_digit};
+ghost use Rattle.std.specs.Cmp.Lexicographic.{slice_cmp};
+ghost use Rattle.std.specs.Str.Parse.{digits_value};
+ghost use Rattle.std.specs.Ordering.{nat_cmp, ordering_then};
+ghost use Rattle.deb_version.specs.VersionOrder.{rank, rank_at, is_word_byte, word_of, digits_of, behind_digits, number, key_order, part_order, version_order, IsTotalPreorder};
+ghost use Rattle.deb_version.specs.Versions.{Parts, parts, is_colon, is_hyphen, epoch_of, rest_of, upstream_of, revision_of, is_version, is_some_of, is_revision_byte, is_upstream_byte, read, IsLongestBeginning};
+
+use std::cmp::Ordering;
+
+/// A version and its parts, all lent from one text. A missing epoch or revision is empty.
+#[derive(Clone, Copy, Debug)]
+pub struct Version<'a> {
+    pub text: &'a [u8],
+    pub epoch: &'a [u8],
+    pub upstream: &'a [u8],
+    pub revision: &'a [u8],
+    ghost text_is_version: { is_version text.now ≡ true },
+    ghost epoch_is: { epoch.now ≡ epoch_of text.now },
+    ghost upstream_is: { upstream.now ≡ upstream_of text.now },
+    ghost revision_is: { revision.now ≡ revision_of text.now },
+}
+
+/// The text is no version. `at` is how many of its bytes, from the front, still begin some version.
+#[derive(Clone, Copy, Debug, PartialEq, Eq)]
+pub struct BadVersion {
+    pub at: usize,
+}
+
+impl<'a> Version<'a> {
+    /// Reads a whole text as a version, `[epoch:]upstream[-revision]` (Debian Policy 5.6.12).
+    /// Nothing is copied: the parts are slices of the text. A text that is no version is refused
+    /// with the length of its longest prefix that some version begins with.
+    pub fn read(text: &'a [u8]) -> Result<Version<'a>, BadVersion>
+        ensures reads { is_ok result ≡ is_version text.now }
+        ensures text { IfOk result (λ version. version.text.now ≡ text.now) }
+        ensures parts { IfOk result (λ version. read text.now ≡ Some (record { epoch = version.epoch.now; upstream = version.upstream.now; revision = version.revision.now })) }
+        ensures longest { IfErr result (λ bad. IsLongestBeginning text.now bad.at) }
+    {
+        let has_epoch = text.contains(&b':');
+        let epoch = epoch_of(text);
+        let rest = rest_of(text);
+        let has_revision = rest.contains(&b'-');
+        let upstream = upstream_of(rest);
+        let revision = revision_of(rest);
+        let is_version = (!has_epoch || is_number(epoch))
+            && is_upstream(has_epoch, upstream)
+            && (!has_revision || is_revision(revision));
+        if is_version {
+            Ok(Version {
+                text,
+                epoch,
+                upstream,
+                revision,
+            })
+        } else {
+            Err(BadVersion {
+                at: longest_beginning(text),
+            })
+        }
+    }
+}
+
+fn first_colon(text: &[u8]) -> Option<usize>
+    ensures { result ≡ position is_colon text.now }
+{
+    text.iter().position(|byte| *byte == b':')
+}
+
+// How many bytes stand behind the last hyphen.
+fn behind_hyphen(rest: &[u8]) -> Option<usize>
+    ensures { result ≡ position is_hyphen (reverse rest.now) }
+{
+    rest.iter().rev().position(|byte| *byte == b'-')
+}
+
+// What stands before the first colon, and nothing where there is none.
+fn epoch_of(text: &[u8]) -> &[u8]
+    ensures { result.now ≡ epoch_of text.now }
+{
+    match first_colon(text) {
+        Some(place) => &text[..place],
+        None => &text[..0],
+    }
+}
+
+// What stands behind the first colon, and all where there is none.
+fn rest_of(text: &[u8]) -> &[u8]
+    ensures { result.now ≡ rest_of text.now }
+{
+    match first_colon(text) {
+        Some(place) => &text[place + 1..],
+        None => text,
+    }
+}
+
+// What stands before the last hyphen, and all where there is none.
+fn upstream_of(rest: &[u8]) -> &[u8]
+    ensures { result.now ≡ cond (list_any is_hyphen rest.now) (before_last is_hyphen rest.now) rest.now }
+{
+    match behind_hyphen(rest) {
+        Some(behind) => &rest[..rest.len() - behind - 1],
+        None => rest,
+    }
+}
+
+// What stands behind the last hyphen, and nothing where there is none.
+fn revision_of(rest: &[u8]) -> &[u8]
+    ensures { result.now ≡ cond (list_any is_hyphen rest.now) (after_last is_hyphen rest.now) [] }
+{
+    match behind_hyphen(rest) {
+        Some(behind) => &rest[rest.len() - behind..],
+        None => &rest[..0],
+    }
+}
+
+fn is_revision_byte(byte: u8) -> bool
+    ensures { result ≡ is_revision_byte byte }
+{
+    byte.is_ascii_alphanumeric() || byte == b'+' || byte == b'.' || byte == b'~'
+}
+
+fn is_upstream_byte(epoch: bool, byte: u8) -> bool
+    ensures { result ≡ is_upstream_byte epoch byte }
+{
+    is_revision_byte(byte) || byte == b'-' || (epoch && byte == b':')
+}
+
+fn is_number(bytes: &[u8]) -> bool
+    ensures { result ≡ is_some_of is_ascii_digit bytes.now }
+{
+    !bytes.is_empty() && all_digits(bytes)
+}
+
+fn all_digits(bytes: &[u8]) -> bool
+    ensures { result ≡ list_all is_ascii_digit bytes.now }
+{
+    bytes.iter().all(|byte| byte.is_ascii_digit())
+}
+
+fn is_upstream(epoch: bool, bytes: &[u8]) -> bool
+    ensures { result ≡ is_some_of (is_upstream_byte epoch) bytes.now }
+{
+    !bytes.is_empty() && all_upstream(epoch, bytes)
+}
+
+fn all_upstream(epoch: bool, bytes: &[u8]) -> bool
+    ensures { result ≡ list_all (is_upstream_byte epoch) bytes.now }
+{
+    bytes.iter().all(|byte| is_upstream_byte(epoch, *byte))
+}
+
+fn is_revision(bytes: &[u8]) -> bool
+    ensures { result ≡ is_some_of is_revision_byte bytes.now }
+{
+    !bytes.is_empty() && all_revision(bytes)
+}
+
+fn all_revision(bytes: &[u8]) -> bool
+    ensures { result ≡ list_all is_revision_byte bytes.now }
+{
+    bytes.iter().all(|byte| is_revision_byte(*byte))
+}
+
+// How many bytes from the front still begin some version.
+fn longest_beginning(text: &[u8]) -> usize
+    ensures { IsLongestBeginning text.now result }
+{
+    let epoch = epoch_of(text);
+    if is_number(epoch) {
+        epoch.len() + 1 + upstream_run(true, rest_of(text))
+    } else {
+        upstream_run(false, text)
+    }
+}
+
+// How many bytes from the front may stand in an upstream version.
+fn upstream_run(epoch: bool, bytes: &[u8]) -> usize
+    ensures { result ≡ prefix_len (is_upstream_byte epoch) bytes.now }
+{
+    bytes
+        .iter()
+        .take_while(|byte| is_upstream_byte(epoch, **byte))
+        .count()
+}
+
+/// Compares two versions (Debian Policy 5.6.12): by their epochs as numbers, a missing one as 0, then by
+/// their upstream versions, then by their revisions, a missing one as `0`. Versions of different texts
+/// may be equal, as `1.0` and `1.0-0`. The order is a total preorder.
+pub fn compare(a: &Version<'_>, b: &Version<'_>) -> Ordering
+    ensures order { result ≡ version_order (parts a.now.text.now) (parts b.now.text.now) }
+    ensures preorder { IsTotalPreorder version_order }
+{
+    let by_epoch = compare_numbers(a.epoch, b.epoch);
+    if by_epoch.is_ne() {
+        return by_epoch;
+    }
+    let by_upstream = compare_parts(a.upstream, b.upstream);
+    if by_upstream.is_ne() {
+        return by_upstream;
+    }
+    compare_parts(a.revision, b.revision)
+}
+
+// Compares two upstream versions or two revisions, turn by turn.
+fn compare_parts(first: &[u8], second: &[u8]) -> Ordering
+    ensures { result ≡ part_order first.now second.now }
+{
+    let mut a = first;
+    let mut b = second;
+    while !a.is_empty() || !b.is_empty() {
+        let one = take_turn(a);
+        let other = take_turn(b);
+        let order = compare_turns(&one, &other);
+        if order.is_ne() {
+            return order;
+        }
+        a = one.behind;
+        b = other.behind;
+    }
+    Ordering::Equal
+}
+
+// The front of a part: a longest run without digits, a longest run of digits, and what stands behind them.
+#[derive(Clone, Copy)]
+struct Turn<'a> {
+    word: &'a [u8],
+    digits: &'a [u8],
+    behind: &'a [u8],
+    ghost digits_only: { list_all is_ascii_digit digits.now ≡ true },
+}
+
+fn take_turn(part: &[u8]) -> Turn<'_>
+    ensures word { result.word.now ≡ word_of part.now }
+    ensures digits { result.digits.now ≡ digits_of part.now }
+    ensures behind { result.behind.now ≡ behind_digits part.now }
+{
+    let (word, rest) = part.split_at(word_length(part));
+    let (digits, behind) = rest.split_at(digits_length(rest));
+    Turn {
+        word,
+        digits,
+        behind,
+    }
+}
+
+fn word_length(part: &[u8]) -> usize
+    ensures length { result ≡ prefix_len is_word_byte part.now }
+    ensures bound { result ≤ length part.now }
+{
+    part.iter()
+        .take_while(|byte| !byte.is_ascii_digit())
+        .count()
+}
+
+fn digits_length(part: &[u8]) -> usize
+    ensures length { result ≡ prefix_len is_ascii_digit part.now }
+    ensures bound { result ≤ length part.now }
+{
+    part.iter().take_while(|byte| byte.is_ascii_digit()).count()
+}
+
+fn compare_turns(one: &Turn<'_>, other: &Turn<'_>) -> Ordering
+    ensures { result ≡ ordering_then (key_order (map rank one.now.word.now) (map rank other.now.word.now)) (nat_cmp (number one.now.digits.now) (number other.now.digits.now)) }
+{
+    compare_words(one.word, other.word).then(compare_numbers(one.digits, other.digits))
+}
+
+// Compares two runs without digits by the ranks of their bytes.
+fn compare_words(a: &[u8], b: &[u8]) -> Ordering
+    ensures { result ≡ key_order (map rank a.now) (map rank b.now) }
+{
+    let longer = a.len().max(b.len());
+    for place in 0..longer {
+        let order = rank_at(a, place).cmp(&rank_at(b, place));
+        if order.is_ne() {
+            return order;
+        }
+    }
+    Ordering::Equal
+}
+
+// The rank at a place of a word, and 0 past its end.
+fn rank_at(word: &[u8], place: usize) -> i32
+    ensures { result ≡ rank_at word.now place }
+{
+    if place < word.len() {
+        rank(word[place])
+    } else {
+        0
+    }
+}
+
+// Where a byte stands: `~` before the end, which counts 0, then letters, then all other bytes.
+fn rank(byte: u8) -> i32
+    ensures { result ≡ rank byte }
+{
+    if byte == b'~' {
+        -1
+    } else if byte.is_ascii_alphabetic() {
+        i32::from(byte)
+    } else {
+        i32::from(byte) + 256
+    }
+}
+
+// Compares two runs of digits as numbers: without leading zeros, by length and then by bytes.
+fn compare_numbers(a: &[u8], b: &[u8]) -> Ordering
+    requires first { list_all is_ascii_digit a.now ≡ true }
+    requires second { list_all is_ascii_digit b.now ≡ true }
+    ensures { result ≡ nat_cmp (number a.now) (number b.now) }
+{
+    let a = without_zeros(a);
+    let b = without_zeros(b);
+    a.len().cmp(&b.len()).then(a.cmp(b))
+}
+
+fn without_zeros(digits: &[u8]) -> &[u8]
+    ensures { result.now ≡ drop (prefix_len (λ byte. byte == 48) digits.now) digits.now }
+{
+    let zeros = zeros_length(digits);
+    &digits[zeros..]
+}
+
+fn zeros_length(digits: &[u8]) -> usize
+    ensures length { result ≡ prefix_len (λ byte. byte == 48) digits.now }
+    ensures bound { result ≤ length digits.now }
+{
+    digits.iter().take_while(|byte| **byte == b'0').count()
+}
+
+#[cfg(test)]
+mod tests {
+    use crate::{BadVersion, Version, compare};
+    use std::cmp::Ordering;
+
+    fn order(a: &str, b: &str) -> Option<Ordering> {
+        let (Ok(a), Ok(b)) = (Version::read(a.as_bytes()), Version::read(b.as_bytes())) else {
+            return None;
+        };
+        Some(compare(&a, &b))
+    }
+
+    // What `dpkg --compare-versions` (dpkg 1.21.22) says of each pair: asked with `lt`, `eq` and `gt`,
+    // it answers yes to one of the three.
+    #[test]
+    fn orders_as_dpkg(rt: HostRuntime) {
+        let table = [
+            ("1.0~rc1", "1.0", Ordering::Less),
+            ("1.0", "1.0-0", Ordering::Equal),
+            ("1.0-0", "1.0+b1", Ordering::Less),
+            ("1.0+b1", "1.0.1", Ordering::Less),
+            ("1.0.1", "1.0.9", Ordering::Less),
+            ("1.0.9", "1.0.10", Ordering::Less),
+            ("1.0.10", "1:0.1", Ordering::Less),
+            ("1.0", "1.0-1", Ordering::Less),
+            ("1.0-1", "1.0-0.1", Ordering::Greater),
+            ("2:1.0", "10:0.5", Ordering::Less),
+            ("0:1.0", "1.0", Ordering::Equal),
+            ("007:1", "7:1", Ordering::Equal),
+            ("1.05", "1.5", Ordering::Equal),
+            ("1.00a", "1.0a", Ordering::Equal),
+            ("1a", "1+", Ordering::Less),
+            ("1~~", "1~~a", Ordering::Less),
+            ("1~", "1", Ordering::Less),
+            ("1.2", "1.2a", Ordering::Less),
+            ("1.2-1~bpo", "1.2-1", Ordering::Less),
+            ("1.2-1", "1.2-1+deb12u1", Ordering::Less),
+            ("2.36-9", "2.36-10", Ordering::Less),
+            ("1.2.3", "1.2.3.0", Ordering::Less),
+            ("1A", "1a", Ordering::Less),
+            ("1Z", "1a", Ordering::Less),
+            ("3.11.2-1", "3.9~", Ordering::Greater),
+            ("1-1-1", "1-1-2", Ordering::Less),
+            ("1:2:3", "1:2:4", Ordering::Less),
+            ("0", "0-0", Ordering::Equal),
+            ("1.2-1.1", "1.2-1.1~", Ordering::Greater),
+            ("1.0-1", "1.0.-1", Ordering::Less),
+        ];
+        for (a, b, want) in table {
+            assert_eq!(rt; order(a, b), Some(want), "{a} and {b}");
+        }
+    }
+
+    #[test]
+    fn refuses_with_place(rt: HostRuntime) {
+        let table = [
+            ("", 0),
+            ("1.0-", 4),
+            ("a:1", 1),
+            ("-1", 2),
+            ("1:2-3:4", 7),
+            ("1.0-a:b", 5),
+            (":1", 0),
+            ("1:", 2),
+            ("1 2", 1),
+            ("1.0_1", 3),
+        ];
+        for (text, at) in table {
+            let read = Version::read(text.as_bytes()).err();
+            assert_eq!(rt; read, Some(BadVersion { at }), "{text}");
+        }
+    }
+
+    // Sixty digits, which no machine number holds.
+    const NINES: &str = "1.999999999999999999999999999999999999999999999999999999999999";
+
+    const ZEROS_AND_NINES: &str =
+        "1.000999999999999999999999999999999999999999999999999999999999999";
+
+    const GREATER: &str = "1.1000000000000000000000000000000000000000000000000000000000000";
+
+    #[test]
+    fn reads_parts_and_long_numbers(rt: HostRuntime) -> Result<(), BadVersion> {
+        let version = Version::read(b"1:2.36-9~a-10+b")?;
+        assert_eq!(rt; version.epoch, b"1".as_slice());
+        assert_eq!(rt; version.upstream, b"2.36-9~a".as_slice());
+        assert_eq!(rt; version.revision, b"10+b".as_slice());
+        assert_eq!(rt; order(NINES, ZEROS_AND_NINES), Some(Ordering::Equal));
+        assert_eq!(rt; order(NINES, GREATER), Some(Ordering::Less));
+        Ok(())
+    }
+}
