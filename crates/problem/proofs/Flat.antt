@@ -1,5 +1,5 @@
 -- A flat table keeps its rows while more targets come behind them.
-use Rattle.std.proofs.Common.{◌≡◌, ◌≤◌, ◌+◌, ◌-◌, ℕ, List, [], ◌∷◌, ◌++◌, true, ◌&&◌, length, take, drop, map, refl, ap, sym, ◌∙◌, arith, nat_le, length-append, Bool}
+use Rattle.std.proofs.Common.{◌≡◌, ◌≤◌, ◌-◌, ℕ, List, [], ◌∷◌, ◌++◌, true, length, take, drop, refl, ap, ◌∙◌, arith, nat_le, length-append, Bool}
 use Rattle.std.specs.List.{list_all, slice_range, sum_by}
 use Rattle.std.proofs.lemmas.List.Sums.{sum_by_push}
 use Rattle.std.proofs.lemmas.List.{take-append-le, drop-append-le, length-drop, map-append}

@@ -1,14 +1,14 @@
 -- A problem that is kept stays so with one more package.
-use Rattle.std.proofs.Common.{inl, inr, ◌≡◌, ◌<◌, ◌≤◌, ◌⊎◌, ◌+◌, ◌-◌, ◌*◌, ◌^◌, ℕ, List, [], ◌∷◌, ◌++◌, Bool, true, false, cond, length, get_or, replicate, refl, ap, sym, ◌∙◌, arith, nat_lt, nat_le, subst, length-append, None}
+use Rattle.std.proofs.Common.{inl, inr, ◌≡◌, ◌<◌, ◌≤◌, ◌⊎◌, ◌+◌, ◌-◌, ℕ, List, [], ◌∷◌, ◌++◌, true, false, length, get_or, replicate, refl, ap, sym, ◌∙◌, arith, nat_lt, subst, length-append, None}
 use Rattle.std.proofs.lemmas.List.{length-replicate, get_or_append_left, get_or-append-add, get_or-replicate}
 use Rattle.std.proofs.Math.Seq.{get_or-append_seam}
 use Rattle.std.proofs.Math.Nat.{eq-or-lt_of_le}
 use Rattle.std.proofs.lemmas.Bool.{ltb-true, ltb-false}
 use Rattle.std.proofs.lemmas.Bool.Decides.{nat_tests}
-use Rattle.resolver_model.specs.Problems.{Problem, IsWellFormed, package_count, version_count, package_of, start_of, dependency_count}
+use Rattle.resolver_model.specs.Problems.{Problem, IsWellFormed, package_count, version_count, package_of, start_of}
 use Rattle.problem.specs.Limits.{IsWithinLimits, package_refusal, most_packages, most_versions}
 use Rattle.problem.specs.Builds.{with_package}
-use Rattle.problem.specs.Places.{AreFirsts, IsKept}
+use Rattle.problem.specs.Places.{IsKept}
 use Rattle.problem.proofs.Ranges.{firsts_added}
 
 not_refused : (p : Problem) (present : ℕ) → package_refusal p present ≡ None → (package_count p + 1 ≤ most_packages) × (version_count p + present + 1 ≤ most_versions)

@@ -1,9 +1,9 @@
 -- The pieces, joined, are the resolvers.
-use Rattle.std.proofs.Common.{inl, inr, ◌==◌, ◌≡◌, ◌<◌, ◌≤◌, ◌⊎◌, ◌+◌, ◌-◌, ℕ, zero, suc, List, [], ◌∷◌, ◌++◌, Bool, true, false, not, ◌&&◌, ◌||◌, cond, nat_lt, nat_le, nat_eq, arith, refl, ap, sym, ◌∙◌, subst, add-one}
+use Rattle.std.proofs.Common.{inl, inr, ◌==◌, ◌≡◌, ◌<◌, ◌≤◌, ◌⊎◌, ◌+◌, ℕ, zero, suc, List, [], ◌∷◌, ◌++◌, Bool, true, false, not, ◌&&◌, ◌||◌, cond, nat_lt, nat_le, nat_eq, arith, refl, ap, sym, ◌∙◌, subst}
 use Rattle.std.specs.List.{filter, list_all, list_any, find}
 use Rattle.std.specs.Option.{unwrap_or}
 use Rattle.std.proofs.lemmas.List.Folds.{list_any-append, list_all-append}
-use Rattle.std.proofs.lemmas.Bool.{and_from, and_parts, or_cases, eqb-true, eq-eqb, leb-true, le-leb, ltb-true, lt-ltb, le-ltb, ltb-false, leb-false}
+use Rattle.std.proofs.lemmas.Bool.{and_from, or_cases, eqb-true, eq-eqb, leb-true, le-leb, ltb-true, lt-ltb, le-ltb, ltb-false}
 use Rattle.std.proofs.lemmas.Bool.Decides.{nat_tests}
 use Rattle.choice_set.specs.Sets.{is_rising, has}
 use Rattle.choice_set.proofs.Rising.{and_left, and_right, list_all_weaker, list_all-filter, is_rising-filter}

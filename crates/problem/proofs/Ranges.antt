@@ -1,12 +1,12 @@
 -- Where the versions of a package stand, when the versions of each package stand together.
-use Rattle.std.proofs.Common.{inl, inr, ◌≡◌, ◌<◌, ◌≤◌, ◌⊎◌, ◌+◌, ◌-◌, ◌*◌, ℕ, zero, suc, List, [], ◌∷◌, ◌++◌, Bool, true, false, cond, length, get_or, replicate, refl, ap, sym, ◌∙◌, arith, add-one, nat_lt, nat_le, length-append}
-use Rattle.std.specs.List.{count_by, sum_by}
+use Rattle.std.proofs.Common.{inl, inr, ◌≡◌, ◌<◌, ◌≤◌, ◌+◌, ◌*◌, ℕ, zero, suc, List, [], ◌∷◌, ◌++◌, Bool, true, false, cond, length, get_or, replicate, refl, ap, sym, ◌∙◌, arith, add-one, nat_lt, nat_le, length-append}
+use Rattle.std.specs.List.{count_by}
 use Rattle.std.proofs.lemmas.List.{get_or_append_left, get_or_read}
 use Rattle.std.proofs.Math.Seq.{get_or-append_seam}
 use Rattle.std.proofs.lemmas.List.Sums.{sum_by-append, sum_by-cons, count_by-le-length}
 use Rattle.std.proofs.lemmas.List.Folds.{sum_by-replicate}
 use Rattle.std.proofs.Math.Nat.{eq-or-lt_of_le}
-use Rattle.std.proofs.lemmas.Bool.{leb-true, le-leb, ltb-true, lt-ltb, le-ltb, ltb-false}
+use Rattle.std.proofs.lemmas.Bool.{le-leb, ltb-true, lt-ltb, le-ltb, ltb-false}
 use Rattle.std.proofs.lemmas.Bool.Decides.{nat_tests}
 use Rattle.resolver_model.specs.Problems.{Problem, IsWellFormed, package_count, version_count, package_of, start_of}
 use Rattle.problem.specs.Builds.{with_package}

@@ -1,5 +1,5 @@
 -- A choice set with one more choice.
-use Rattle.std.proofs.Common.{◌≡◌, ◌<◌, ℕ, List, true, ◌&&◌, IsTrue, nat_lt}
+use Rattle.std.proofs.Common.{◌≡◌, ◌<◌, ℕ, List, true, IsTrue, nat_lt}
 use Rattle.std.specs.List.{list_all}
 use Rattle.std.proofs.lemmas.Bool.{and_from, lt-ltb}
 use Rattle.choice_set.specs.Sets.{is_rising, with}

@@ -1,7 +1,6 @@
-use Rattle.std.proofs.Common.{◌≡◌, sym, rules, ◌++◌, ◌∷◌, [], None, subst, vec_len, length}
-use Rattle.resolver_model.specs.Problems.{Problem, version_count}
+use Rattle.std.proofs.Common.{◌≡◌, sym, rules, [], None, subst, vec_len, length}
+use Rattle.resolver_model.specs.Problems.{Problem}
 use Rattle.problem.specs.Limits.{package_refusal}
-use Rattle.problem.specs.Places.{IsKept}
 use Rattle.problem.proofs.Kept.{package_kept}
 use Rattle.problem.proofs.Problem.add_package.Goals as goal
 

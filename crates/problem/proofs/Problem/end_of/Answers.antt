@@ -1,7 +1,7 @@
 use Rattle.std.proofs.Common.{◌≡◌, ◌<◌, ◌≤◌, ◌+◌, sym, subst, arith, rules, length, ◌∙◌}
 use Rattle.resolver_model.specs.Problems.{Problem, package_count, version_count}
 use Rattle.problem.specs.Places.{end_of}
-use Rattle.problem.proofs.Ranges.{end_from_next, end_at_last, end_of-range, first_range}
+use Rattle.problem.proofs.Ranges.{end_from_next, end_at_last, first_range}
 use Rattle.problem.proofs.Problem.end_of.Goals as goal
 
 pub returns-then-package-len-clause-range : goal.returns-then-package-len-clause-range

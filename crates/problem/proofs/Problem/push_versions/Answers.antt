@@ -1,4 +1,4 @@
-use Rattle.std.proofs.Common.{◌≡◌, ◌++◌, ◌∷◌, [], true, false, sym, ap, ◌∙◌, Vec, Global, ℕ, append_assoc}
+use Rattle.std.proofs.Common.{◌≡◌, ◌++◌, ◌∷◌, [], true, false, sym, ap, Vec, Global, ℕ, append_assoc}
 use Rattle.std.proofs.lemmas.List.{append-nil}
 use Rattle.problem.specs.Resolving.{is_free_install, free_versions}
 use Rattle.problem.proofs.Resolving.{free_versions_none, free_versions_yes, free_versions_no}

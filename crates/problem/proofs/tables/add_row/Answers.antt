@@ -1,4 +1,4 @@
-use Rattle.std.proofs.Common.{rules, ◌≡◌, ◌++◌, length}
+use Rattle.std.proofs.Common.{rules, ◌≡◌, length}
 use Rattle.problem.proofs.Flat.{tables_pushed, view_pushed}
 use Rattle.problem.proofs.tables.add_row.Goals as goal
 

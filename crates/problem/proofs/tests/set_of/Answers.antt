@@ -1,4 +1,4 @@
-use Rattle.std.proofs.Common.{◌≡◌, ◌<◌, ℕ, List, true, sym, subst, IsTrue, get_or, arith}
+use Rattle.std.proofs.Common.{◌≡◌, ℕ, List, true, sym, subst, IsTrue, get_or, arith}
 use Rattle.resolver_model.specs.Problems.{is_choice, is_choice_set}
 use Rattle.problem.proofs.Sets.{choice_set_with}
 use Rattle.problem.proofs.tests.set_of.Goals as goal

@@ -1,4 +1,4 @@
-use Rattle.std.proofs.Common.{◌≡◌, ◌<◌, ℕ, List, sym, subst, IsTrue, nat_lt, get_or, arith}
+use Rattle.std.proofs.Common.{ℕ, List, sym, subst, IsTrue, nat_lt, get_or}
 use Rattle.std.specs.List.{list_all}
 use Rattle.problem.proofs.Sets.{versions_with}
 use Rattle.problem.proofs.tests.versions_of.Goals as goal
