@@ -1,0 +1,8 @@
+pub mod Cuts
+pub mod Runs
+pub mod Bytes
+pub mod Readings
+pub mod Fields
+pub mod Parts
+pub mod FirstFaults
+pub mod LinesInOrder

@@ -1,0 +1,5 @@
+pub mod Text
+pub mod Answers
+pub mod Fields
+pub mod Passes
+pub mod Laws
