@@ -1,0 +1,9 @@
+pub mod Counts
+pub mod Known
+pub mod Writing
+pub mod Reading
+pub mod Cuts
+pub mod Inputs
+pub mod Names
+pub mod Planned
+pub mod Shelves

@@ -1,0 +1,11 @@
+pub mod Faults
+pub mod Bytes
+pub mod Files
+pub mod Lines
+pub mod Asked
+pub mod Plan
+pub mod Memory
+pub mod MemSource
+pub mod MemSink
+pub mod MemShelf
+pub mod Opened

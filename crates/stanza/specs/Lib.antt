@@ -1,0 +1,4 @@
+pub mod Fields
+pub mod Stanzas
+pub mod Statuses
+pub mod Views

@@ -1,0 +1,136 @@
+//! Typed stanzas: what a paragraph of a Debian packages file or of dpkg's status file says of a package.
+#![tactic(auto)]
+
+ghost use Rattle.std.specs.Prelude.{◌≡◌, true, false, is_some};
+ghost use Rattle.stanza.specs.Fields.{is_relation, is_provides};
+
+use control_file::Paragraph;
+use deb_version::Version;
+
+mod contents;
+mod fields;
+mod relations;
+mod statuses;
+
+use contents::Content;
+use fields::{read_arch, read_essential, read_name, read_status_field};
+use statuses::Status;
+
+/// What a stanza says of a package, lent from the text. A relationship field that is missing is empty, and all of
+/// them are read without fault. A package of which no version is there (`present` is false) has no version and no
+/// relationship fields.
+#[derive(Clone, Copy, Debug)]
+pub struct Stanza<'a> {
+    pub name: &'a [u8],
+    pub arch: Option<&'a [u8]>,
+    /// The line of the stanza's first field, counted from 1.
+    pub line: u64,
+    pub present: bool,
+    /// Whether the administrator wishes the package to be kept as it is.
+    pub hold: bool,
+    pub essential: bool,
+    pub version: Option<Version<'a>>,
+    pub pre_depends: &'a [u8],
+    pub depends: &'a [u8],
+    pub recommends: &'a [u8],
+    pub conflicts: &'a [u8],
+    pub breaks: &'a [u8],
+    pub provides: &'a [u8],
+    ghost version_there: { is_some version ≡ present },
+    ghost pre_depends_read: { is_relation true pre_depends.now ≡ true },
+    ghost depends_read: { is_relation true depends.now ≡ true },
+    ghost recommends_read: { is_relation true recommends.now ≡ true },
+    ghost conflicts_read: { is_relation false conflicts.now ≡ true },
+    ghost breaks_read: { is_relation false breaks.now ≡ true },
+    ghost provides_read: { is_provides provides.now ≡ true },
+}
+
+/// Why a paragraph is no stanza.
+#[derive(Clone, Copy, Debug, PartialEq, Eq)]
+pub enum StanzaKind {
+    /// It has no field `Package`.
+    NoPackage,
+    /// The value of `Package` is no package name.
+    BadPackage,
+    /// The value of `Status` is no wish, flag and state, or `Status` is missing.
+    BadStatus,
+    /// It has no field `Version`.
+    NoVersion,
+    /// The value of `Version` is no version.
+    BadVersion,
+    /// The value of a relationship field is none.
+    BadRelation,
+}
+
+/// The first fault of a paragraph: the line of the faulty field, or that of the paragraph where a field is missing.
+#[derive(Clone, Copy, Debug, PartialEq, Eq)]
+pub struct StanzaFault {
+    pub line: u64,
+    pub kind: StanzaKind,
+}
+
+impl<'a> Stanza<'a> {
+    ghost use Rattle.stanza.specs.Stanzas.{stanza_with, package_stanza, status_stanza};
+    ghost use Rattle.stanza.specs.Views.{meaning, outcome, status_text, content_text};
+
+    /// The stanza of a paragraph of a packages file (Debian Policy 5.3), with the first fault in the order of
+    /// `StanzaKind`, and within `BadRelation` in the order Pre-Depends, Depends, Recommends, Conflicts, Breaks,
+    /// Provides. A version of it is there, and no wish holds it.
+    pub fn of_package(paragraph: &Paragraph<'a>) -> Result<Stanza<'a>, StanzaFault>
+        ensures { outcome result ≡ package_stanza paragraph.now }
+    {
+        let name = read_name(paragraph)?;
+        let content = Content::read(paragraph)?;
+        let status = Status {
+            hold: false,
+            present: true,
+        };
+        Ok(Stanza::assemble(paragraph, name, status, content))
+    }
+
+    /// The stanza of a paragraph of dpkg's status file, with the first fault in the order of `StanzaKind`, as
+    /// `of_package`. Where the state is `not-installed`, `config-files` or `half-installed`, no version is there,
+    /// and neither the version nor the relationship fields are read.
+    pub fn of_status(paragraph: &Paragraph<'a>) -> Result<Stanza<'a>, StanzaFault>
+        ensures { outcome result ≡ status_stanza paragraph.now }
+    {
+        let name = read_name(paragraph)?;
+        let status = read_status_field(paragraph)?;
+        let content = if status.present {
+            Content::read(paragraph)?
+        } else {
+            Content::nothing()
+        };
+        Ok(Stanza::assemble(paragraph, name, status, content))
+    }
+
+    // The stanza of what was read.
+    fn assemble(
+        paragraph: &Paragraph<'a>,
+        name: &'a [u8],
+        status: Status,
+        content: Content<'a>,
+    ) -> Stanza<'a>
+        requires { is_some content.version ≡ status.present }
+        ensures { meaning result ≡ stanza_with paragraph.now name.now (status_text status) (content_text content.entry) }
+    {
+        Stanza {
+            name,
+            arch: read_arch(paragraph),
+            line: paragraph.line(),
+            present: status.present,
+            hold: status.hold,
+            essential: read_essential(paragraph),
+            version: content.version,
+            pre_depends: content.pre_depends,
+            depends: content.depends,
+            recommends: content.recommends,
+            conflicts: content.conflicts,
+            breaks: content.breaks,
+            provides: content.provides,
+        }
+    }
+}
+
+#[cfg(test)]
+mod tests;
