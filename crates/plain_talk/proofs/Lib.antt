@@ -1,0 +1,5 @@
+pub mod Saying
+pub mod Counting
+pub mod Spoken
+pub mod Left
+pub mod Turning

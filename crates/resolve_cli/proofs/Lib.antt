@@ -1,0 +1,3 @@
+pub mod Complete
+pub mod Refusals
+pub mod Sure

@@ -1,0 +1,3 @@
+pub mod CapPlaces
+pub mod Searches
+pub mod Merges

@@ -1,0 +1,2 @@
+pub mod CapOrder
+pub mod Merging

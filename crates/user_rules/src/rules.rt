@@ -1,0 +1,312 @@
+// Rules: marks on choices, and caps on the parts of costs.
+ghost use Rattle.std.specs.Prelude.{◌≡◌, not, IsTrue};
+ghost use Rattle.std.specs.List.{find, list_all};
+ghost use Rattle.std.specs.Option.{option_map};
+ghost use Rattle.choice_set.specs.Sets.{has, is_rising, is_subset, is_disjoint};
+ghost use Rattle.resolver_model.specs.Rules as model;
+
+use crate::caps::{is_under, place_of, set_cap};
+use crate::marked::Marked;
+use choice_set::{ChoiceSet, NoMemory};
+use resolver_model::Mark;
+use std::alloc::Global;
+use std::marker::Model;
+
+/// Which choices are approved, which are rejected, and how much the levels of a cost may have.
+#[derive(Debug, Drop)]
+pub struct Rules {
+    approved: ChoiceSet,
+    rejected: ChoiceSet,
+    // by rising level
+    caps: Vec<(u32, u64)>,
+}
+
+impl Model for Rules {
+    ghost use Rattle.resolver_model.specs.Rules as model;
+    ghost use Rattle.user_rules.specs.CapOrder.{RisesByLevel};
+
+    ghost Value = { model.Rules };
+
+    ghost view = { λ a. record { approved = a.approved; rejected = a.rejected; caps = a.caps.items } };
+
+    ghost invariant = { λ a. RisesByLevel a.caps.items };
+}
+
+impl Rules {
+    ghost use Rattle.std.specs.Prelude.{◌≡◌, ℕ, IsTrue, IsFalse, IfOk, MatchOption, is_ok, if◌then◌else◌};
+    ghost use Rattle.resolver_model.specs.Rules as model;
+    ghost use Rattle.resolver_model.specs.Rules.{no_rules, set_mark, mark_of, keeps, marks, is_against, IsLeastAgainst, is_over, IsLeastOver};
+
+    /// No rules: every choice is free, and no level has a cap.
+    pub fn new(alloc: Global) -> Rules
+        ensures { result ≡ no_rules }
+    {
+        Rules {
+            approved: ChoiceSet::empty(alloc),
+            rejected: ChoiceSet::empty(alloc),
+            caps: Vec::new(alloc),
+        }
+    }
+
+    /// Marks a choice. The mark replaces the one before it. After `NoMemory` the rules are as before.
+    pub fn set(&mut self, alloc: Global, choice: u32, mark: Mark) -> Result<(), NoMemory>
+        ensures { self.new ≡ (if is_ok result then set_mark self.old choice mark else self.old) }
+    {
+        let approved = match mark {
+            Mark::Approved => self.approved.with(alloc, choice)?,
+            _ => self.approved.without(alloc, choice)?,
+        };
+        let rejected = match mark {
+            Mark::Rejected => self.rejected.with(alloc, choice)?,
+            _ => self.rejected.without(alloc, choice)?,
+        };
+        self.approved = approved;
+        self.rejected = rejected;
+        Ok(())
+    }
+
+    /// The mark of a choice.
+    pub fn mark_of(&self, choice: u32) -> Mark
+        ensures { result ≡ mark_of self.now choice }
+    {
+        if contains(&self.approved, choice) {
+            Mark::Approved
+        } else if contains(&self.rejected, choice) {
+            Mark::Rejected
+        } else {
+            Mark::Free
+        }
+    }
+
+    /// Sets the most that a cost may have at a level, counted from 0, or takes the cap away. After `NoMemory` the rules
+    /// are as before.
+    pub fn cap(&mut self, level: u32, most: Option<u64>) -> Result<(), NoMemory>
+        ensures { self.new ≡ (if is_ok result then model.set_cap self.old level most else self.old) }
+    {
+        set_cap(&mut self.caps, level, most)
+    }
+
+    /// The most that a cost may have at a level, if the level has a cap.
+    pub fn cap_of(&self, level: u32) -> Option<u64>
+        ensures { result ≡ model.cap_of self.now level }
+    {
+        match place_of(&self.caps, level) {
+            Ok(place) => Some(self.caps[place].1),
+            Err(_) => None,
+        }
+    }
+
+    /// The levels that have a cap, rising, each with the most that a cost may have there.
+    pub fn caps(&self, alloc: Global) -> Result<Vec<(u32, u64)>, NoMemory>
+        ensures { IfOk result (λ list. list.items ≡ self.now.caps) }
+    {
+        match Vec::from_slice(alloc, self.caps.as_slice()) {
+            Ok(list) => Ok(list),
+            Err(_) => Err(NoMemory),
+        }
+    }
+
+    /// Whether a set with the given cost keeps the rules: it has every approved choice and no rejected one, and no part
+    /// of its cost is greater than its cap.
+    pub fn keeps(&self, set: &ChoiceSet, parts: &[u64]) -> bool
+        ensures { result ≡ keeps self.now set.now parts.now }
+    {
+        is_subset(&self.approved, set)
+            && is_disjoint(&self.rejected, set)
+            && are_under(&self.caps, parts)
+    }
+
+    /// The least choice against the set: it is rejected and in the set, or approved and not in it.
+    pub fn first_against(&self, set: &ChoiceSet) -> Option<u32>
+        ensures { MatchOption result ((c : ℕ) → IsFalse (is_against self.now set.now c)) (IsLeastAgainst self.now set.now) }
+    {
+        match (
+            first_outside(&self.approved, set),
+            first_inside(&self.rejected, set),
+        ) {
+            (Some(missing), Some(there)) => Some(missing.min(there)),
+            (Some(missing), None) => Some(missing),
+            (None, there) => there,
+        }
+    }
+
+    /// The least level at which the cost is greater than the cap. Levels past the end of the cost do not count.
+    pub fn first_cap_over(&self, parts: &[u64]) -> Option<u32>
+        ensures { MatchOption result ((level : ℕ) → IsFalse (is_over self.now parts.now level))
+            (IsLeastOver self.now parts.now) }
+    {
+        first_over(&self.caps, parts)
+    }
+
+    /// The choices that are not free, rising, with their marks.
+    pub fn marked(&self, alloc: Global) -> Result<Vec<(u32, Mark)>, NoMemory>
+        ensures { IfOk result (λ list. list.items ≡ marks self.now) }
+    {
+        let marked = Marked {
+            approved: self.approved.as_slice(),
+            rejected: self.rejected.as_slice(),
+        };
+        match marked.collect(alloc) {
+            Ok(list) => Ok(list),
+            Err(_) => Err(NoMemory),
+        }
+    }
+
+    /// The same rules once more.
+    pub fn copy(&self, alloc: Global) -> Result<Rules, NoMemory>
+        ensures { IfOk result (λ rules. rules ≡ self.now) }
+    {
+        let approved = self.approved.copy(alloc)?;
+        let rejected = self.rejected.copy(alloc)?;
+        let caps = self.caps(alloc)?;
+        Ok(Rules {
+            approved,
+            rejected,
+            caps,
+        })
+    }
+}
+
+// Whether a choice is in a set, by halves.
+fn contains(set: &ChoiceSet, choice: u32) -> bool
+    ensures { result ≡ has set.now choice }
+{
+    set.as_slice().binary_search(&choice).is_ok()
+}
+
+// Whether each member of the first set is in the other.
+fn is_subset(set: &ChoiceSet, other: &ChoiceSet) -> bool
+    ensures { result ≡ is_subset set.now other.now }
+{
+    set.as_slice().iter().all(|choice| contains(other, *choice))
+}
+
+// Whether no member of the first set is in the other.
+fn is_disjoint(set: &ChoiceSet, other: &ChoiceSet) -> bool
+    ensures { result ≡ is_disjoint set.now other.now }
+{
+    set.as_slice()
+        .iter()
+        .all(|choice| !contains(other, *choice))
+}
+
+// Whether a cost is within all caps.
+fn are_under(caps: &[(u32, u64)], parts: &[u64]) -> bool
+    ensures { result ≡ list_all (model.is_under parts.now) caps.now }
+{
+    caps.iter().all(|cap| is_under(parts, cap))
+}
+
+// The first member of one set that is not in the other.
+fn first_outside(set: &ChoiceSet, other: &ChoiceSet) -> Option<u32>
+    ensures value { result ≡ find (λ c. not (has other.now c)) set.now }
+    ensures rising { IsTrue (is_rising set.now) }
+{
+    set.as_slice()
+        .iter()
+        .copied()
+        .find(|choice| !contains(other, *choice))
+}
+
+// The first member of one set that is in the other.
+fn first_inside(set: &ChoiceSet, other: &ChoiceSet) -> Option<u32>
+    ensures value { result ≡ find (has other.now) set.now }
+    ensures rising { IsTrue (is_rising set.now) }
+{
+    set.as_slice()
+        .iter()
+        .copied()
+        .find(|choice| contains(other, *choice))
+}
+
+// The level of the first cap that the cost is over.
+fn first_over(caps: &[(u32, u64)], parts: &[u64]) -> Option<u32>
+    ensures { result ≡ option_map (λ (c : model.Cap). c.0) (find (λ c. not (model.is_under parts.now c)) caps.now) }
+{
+    caps.iter()
+        .find(|cap| !is_under(parts, cap))
+        .map(|cap| cap.0)
+}
+
+#[cfg(test)]
+mod tests {
+    use super::*;
+    use std::test::Fail;
+
+    // Choice 2 is approved, 5 and 7 are rejected; level 0 may have 3 at most, and level 2 may have 1.
+    fn some_rules(alloc: Global) -> Result<Rules, NoMemory> {
+        let mut rules = Rules::new(alloc);
+        rules.set(alloc, 7, Mark::Rejected)?;
+        rules.set(alloc, 5, Mark::Approved)?;
+        rules.set(alloc, 2, Mark::Approved)?;
+        rules.set(alloc, 5, Mark::Rejected)?;
+        rules.cap(2, Some(4))?;
+        rules.cap(0, Some(3))?;
+        rules.cap(1, Some(9))?;
+        rules.cap(2, Some(1))?;
+        rules.cap(1, None)?;
+        Ok(rules)
+    }
+
+    #[test]
+    fn sets_are_judged(rt: HostRuntime) -> Result<(), Fail> {
+        let rules = some_rules(rt.alloc())?;
+        let cases = [
+            ([1, 2], [3, 0, 1], true, None, None),
+            ([1, 2], [4, 0, 2], false, None, Some(0)),
+            ([1, 2], [3, 100, 2], false, None, Some(2)),
+            ([2, 5], [0, 0, 0], false, Some(5), None),
+            ([5, 7], [0, 0, 0], false, Some(2), None),
+            ([2, 7], [0, 0, 0], false, Some(7), None),
+        ];
+        for (set, parts, keeps, against, over) in cases {
+            let set = ordered(rt.alloc(), set)?;
+            assert_eq!(rt; rules.keeps(&set, parts.as_slice()), keeps);
+            assert_eq!(rt; rules.first_against(&set), against);
+            assert_eq!(rt; rules.first_cap_over(parts.as_slice()), over);
+        }
+        Ok(())
+    }
+
+    // The set of two choices.
+    fn ordered(alloc: Global, set: [u32; 2]) -> Result<ChoiceSet, NoMemory> {
+        ChoiceSet::empty(alloc)
+            .with(alloc, set[0])?
+            .with(alloc, set[1])
+    }
+
+    #[test]
+    fn rules_are_listed(rt: HostRuntime) -> Result<(), Fail> {
+        let rules = some_rules(rt.alloc())?;
+        let again = rules.copy(rt.alloc())?;
+        let marked = again.marked(rt.alloc())?;
+        assert_eq!(rt;
+            marked.as_slice(),
+            [
+                (2, Mark::Approved),
+                (5, Mark::Rejected),
+                (7, Mark::Rejected)
+            ]
+            .as_slice()
+        );
+        let caps = again.caps(rt.alloc())?;
+        assert_eq!(rt; caps.as_slice(), [(0, 3), (2, 1)].as_slice());
+        for (choice, mark) in [(2, Mark::Approved), (5, Mark::Rejected), (6, Mark::Free)] {
+            assert_eq!(rt; rules.mark_of(choice), mark);
+        }
+        for (level, most) in [(0, Some(3)), (1, None), (2, Some(1))] {
+            assert_eq!(rt; rules.cap_of(level), most);
+        }
+        Ok(())
+    }
+
+    #[test]
+    fn a_mark_is_freed(rt: HostRuntime) -> Result<(), Fail> {
+        let mut rules = some_rules(rt.alloc())?;
+        rules.set(rt.alloc(), 2, Mark::Free)?;
+        assert_eq!(rt; rules.mark_of(2), Mark::Free);
+        let marked = rules.marked(rt.alloc())?;
+        assert_eq!(rt; marked.len(), 2);
+        Ok(())
+    }
+}
