@@ -1,0 +1,9 @@
+pub mod Faults
+pub mod Lists
+pub mod Reading
+pub mod Versions
+pub mod Meeting
+pub mod Dependencies
+pub mod Universes
+pub mod Limits
+pub mod Tokens
