@@ -1,4 +1,4 @@
--- Packages and their versions (Debian Policy 5.6.1 and 5.6.12), and which are installed, candidates, held and essential.
+-- Packages and their versions (Debian Policy 5.6.7 and 5.6.12), and which are installed, candidates, held and essential.
 use Rattle.std.specs.Prelude.{ℕ, Bool, true, false, not, ◌&&◌, ◌==◌, List, [], ◌∷◌, ◌++◌, map, Option, Some, None}
 use Rattle.std.specs.List.{filter, find, list_any, position, position_or_len}
 use Rattle.std.specs.Option.{unwrap_or}
