@@ -591,6 +591,13 @@ impl Builder {
         }
     }
 
+    /// The problem as it is built so far.
+    pub fn problem(&self) -> &Problem
+        ensures { result.now ≡ self.now }
+    {
+        &self.problem
+    }
+
     /// The problem as it was built.
     pub fn finish(self) -> Problem
         ensures { result ≡ self }
