@@ -2,7 +2,7 @@ pub mod Cuts
 pub mod Runs
 pub mod Bytes
 pub mod Readings
-pub mod Fields
+pub mod FieldsInOrder
 pub mod Parts
 pub mod FirstFaults
 pub mod LinesInOrder

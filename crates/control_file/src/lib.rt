@@ -435,6 +435,17 @@ impl<'a> Paragraph<'a> {
         self.text
     }
 
+    /// Its fields in order, as they are asked for. All of them take the time of one pass over its lines.
+    pub fn fields(&self) -> Fields<'a>
+        ensures { result ≡ self.now.fields }
+    {
+        let left = skip_continued(self.text, self.line);
+        Fields {
+            rest: left.text,
+            line: left.line,
+        }
+    }
+
     /// The field at a place, counted from 0. It takes the time of a pass over the lines up to that field.
     pub fn at(&self, place: usize) -> Field<'a>
         requires { place < length self.now.fields }
@@ -463,6 +474,46 @@ impl<'a> Paragraph<'a> {
             left = behind;
         }
         None
+    }
+}
+
+/// The fields of a paragraph in order, lent from the text (Debian Policy 5.1). A contract sees it as the fields that it
+/// has still to give. It goes over the lines of a field when that is asked for, and takes no memory.
+#[derive(Drop)]
+pub struct Fields<'a> {
+    rest: &'a [u8],
+    line: u64,
+}
+
+impl<'a> Model for Fields<'a> {
+    ghost use Rattle.std.specs.Prelude.{◌≡◌, ◌<◌, ◌+◌, ◌^◌, List, false, length};
+    ghost use Rattle.control_file.specs.Text.{FieldText, fields_of, lines_from, begins_with_space};
+
+    ghost Value = { List FieldText };
+
+    ghost view = { λ f. fields_of (lines_from f.line f.rest.now) };
+
+    ghost invariant = { λ f. (begins_with_space f.rest.now ≡ false) × (f.line + length f.rest.now < 2 ^ 64) };
+}
+
+impl<'a> Iterator for Fields<'a> {
+    ghost use Rattle.std.specs.Iterator.{YieldsFirstBy, item_count};
+    ghost use Rattle.control_file.specs.Fields.{field_text};
+
+    type Item = Field<'a>;
+
+    ghost next_gives = { YieldsFirstBy field_text (λ fields. fields) };
+
+    ghost remaining = { item_count (λ fields. fields) };
+
+    fn next(&mut self) -> Option<Field<'a>> {
+        if self.rest.is_empty() {
+            return None;
+        }
+        let (field, left) = first_field(self.rest, self.line);
+        self.rest = left.text;
+        self.line = left.line;
+        Some(field)
     }
 }
 

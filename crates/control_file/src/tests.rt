@@ -90,6 +90,29 @@ fn values_are_trimmed_parts_of_the_text(rt: HostRuntime) {
 }
 
 #[test]
+fn fields_come_in_order(rt: HostRuntime) {
+    let text = b"\nA: 1\nbc:\n 2\n\t3\nD: x\n\nE: 5\n";
+    match Paragraphs::new(text).next() {
+        Ok(Some(paragraph)) => {
+            let mut fields = paragraph.fields();
+            for (line, name, value) in [(2, "A", "1"), (3, "bc", "\n 2\n\t3"), (6, "D", "x")] {
+                match fields.next() {
+                    Some(field) => {
+                        assert_eq!(rt; field.line, line);
+                        assert_eq!(rt; field.name, name.as_bytes());
+                        assert_eq!(rt; field.value, value.as_bytes());
+                    }
+                    None => assert!(rt; false, "no field {name}"),
+                }
+            }
+            assert!(rt; fields.next().is_none());
+            assert_eq!(rt; paragraph.fields().count(), 3);
+        }
+        _ => assert!(rt; false, "no paragraph"),
+    }
+}
+
+#[test]
 fn a_paragraph_has_at_most_1024_fields(rt: HostRuntime) -> Result<(), Fail> {
     let most = many_fields(rt.alloc(), 1024)?;
     assert_eq!(rt; first_fault(&most), None);

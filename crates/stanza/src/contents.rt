@@ -4,8 +4,7 @@ ghost use Rattle.std.specs.Prelude.{◌≡◌, true, false};
 ghost use Rattle.stanza.specs.Fields.{is_relation, is_provides};
 
 use crate::StanzaFault;
-use crate::fields::{read_provides, read_relation, read_version};
-use control_file::Paragraph;
+use crate::fields::FoundFields;
 use deb_version::Version;
 
 /// What is read of a package of which a version is there.
@@ -49,16 +48,16 @@ impl<'a> Content<'a> {
     }
 
     /// Reads the version and then the relationship fields, up to the first fault.
-    pub fn read(paragraph: &Paragraph<'a>) -> Result<Content<'a>, StanzaFault>
-        ensures { MatchResult result (λ content. (content_fault paragraph.now ≡ None) × (content_text content ≡ content_in paragraph.now) × (is_some content.version ≡ true)) (λ fault. content_fault paragraph.now ≡ Some fault) }
+    pub fn read(found: &FoundFields<'_, 'a>) -> Result<Content<'a>, StanzaFault>
+        ensures { MatchResult result (λ content. (content_fault found.now.paragraph.now ≡ None) × (content_text content ≡ content_in found.now.paragraph.now) × (is_some content.version ≡ true)) (λ fault. content_fault found.now.paragraph.now ≡ Some fault) }
     {
-        let version = read_version(paragraph)?;
-        let pre_depends = read_relation(paragraph, b"Pre-Depends", true)?;
-        let depends = read_relation(paragraph, b"Depends", true)?;
-        let recommends = read_relation(paragraph, b"Recommends", true)?;
-        let conflicts = read_relation(paragraph, b"Conflicts", false)?;
-        let breaks = read_relation(paragraph, b"Breaks", false)?;
-        let provides = read_provides(paragraph)?;
+        let version = found.version()?;
+        let pre_depends = found.pre_depends()?;
+        let depends = found.depends()?;
+        let recommends = found.recommends()?;
+        let conflicts = found.conflicts()?;
+        let breaks = found.breaks()?;
+        let provides = found.provides()?;
         Ok(Content {
             version: Some(version),
             pre_depends,

@@ -10,10 +10,11 @@ use deb_version::Version;
 mod contents;
 mod fields;
 mod relations;
+mod slots;
 mod statuses;
 
 use contents::Content;
-use fields::{read_arch, read_essential, read_name, read_status_field};
+use fields::FoundFields;
 use statuses::Status;
 
 /// What a stanza says of a package, lent from the text. A relationship field that is missing is empty, and all of
@@ -79,13 +80,14 @@ impl<'a> Stanza<'a> {
     pub fn of_package(paragraph: &Paragraph<'a>) -> Result<Stanza<'a>, StanzaFault>
         ensures { outcome result ≡ package_stanza paragraph.now }
     {
-        let name = read_name(paragraph)?;
-        let content = Content::read(paragraph)?;
+        let found = FoundFields::of(paragraph);
+        let name = found.name()?;
+        let content = Content::read(&found)?;
         let status = Status {
             hold: false,
             present: true,
         };
-        Ok(Stanza::assemble(paragraph, name, status, content))
+        Ok(Stanza::assemble(&found, name, status, content))
     }
 
     /// The stanza of a paragraph of dpkg's status file, with the first fault in the order of `StanzaKind`, as
@@ -94,33 +96,34 @@ impl<'a> Stanza<'a> {
     pub fn of_status(paragraph: &Paragraph<'a>) -> Result<Stanza<'a>, StanzaFault>
         ensures { outcome result ≡ status_stanza paragraph.now }
     {
-        let name = read_name(paragraph)?;
-        let status = read_status_field(paragraph)?;
+        let found = FoundFields::of(paragraph);
+        let name = found.name()?;
+        let status = found.status()?;
         let content = if status.present {
-            Content::read(paragraph)?
+            Content::read(&found)?
         } else {
             Content::nothing()
         };
-        Ok(Stanza::assemble(paragraph, name, status, content))
+        Ok(Stanza::assemble(&found, name, status, content))
     }
 
     // The stanza of what was read.
     fn assemble(
-        paragraph: &Paragraph<'a>,
+        found: &FoundFields<'_, 'a>,
         name: &'a [u8],
         status: Status,
         content: Content<'a>,
     ) -> Stanza<'a>
         requires { is_some content.version ≡ status.present }
-        ensures { meaning result ≡ stanza_with paragraph.now name.now (status_text status) (content_text content.entry) }
+        ensures { meaning result ≡ stanza_with found.now.paragraph.now name.now (status_text status) (content_text content.entry) }
     {
         Stanza {
             name,
-            arch: read_arch(paragraph),
-            line: paragraph.line(),
+            arch: found.arch(),
+            line: found.line(),
             present: status.present,
             hold: status.hold,
-            essential: read_essential(paragraph),
+            essential: found.essential(),
             version: content.version,
             pre_depends: content.pre_depends,
             depends: content.depends,

@@ -1,5 +1,5 @@
 -- A universe: the packages, versions and dependencies of two texts, and the problem that they are.
-use Rattle.std.specs.Prelude.{ℕ, Bool, false, ◌&&◌, ◌==◌, List, [], map, length, Option, Some, None, slice_index_or}
+use Rattle.std.specs.Prelude.{◌≡◌, ℕ, Bool, false, ◌&&◌, ◌==◌, List, [], map, length, Option, Some, None, slice_index_or}
 use Rattle.std.specs.List.{position, position_or_len}
 use Rattle.std.specs.Option.{option_map}
 use Rattle.deb_version.specs.Versions.{Parts, parts}
@@ -10,20 +10,18 @@ use Rattle.universe_model.specs.Reading.{Texts, Stanzas, stanzas_of}
 use Rattle.universe_model.specs.Versions.{Release, Version, names, versions, is_equal, is_release_with, installed_of, candidate_of, is_held}
 use Rattle.universe_model.specs.Dependencies.{Requirement, requirements}
 
--- What is known of a version: its package, its text as it was first read, whether it is essential (Debian Policy 5.6.9),
--- and the text of its first paragraph. What is absent has neither text.
+-- What is known of a version: its package, its text as it was first read, and whether it is essential (Debian Policy 5.6.9).
+-- What is absent has no text.
 pub record Known : Type 0 where
   pub package_number : ℕ
   pub text : Option (List ℕ)
   pub essential : Bool
-  pub paragraph : Option (List ℕ)
 
 abbrev pub known : Version → Known
 known v = record {
   package_number = v.package_number;
   text = option_map (λ (release : Release). release.text) v.release;
   essential = is_release_with (λ release. release.essential) v.release;
-  paragraph = option_map (λ (release : Release). release.paragraph) v.release;
 }
 
 -- The native architecture; for each package its name, its installed version, its candidate and whether it is held; all
@@ -74,6 +72,10 @@ problem_from u starts = record { owners = map owner_of u.versions; starts = star
 abbrev pub problem_of : Universe → Problem
 problem_of u = problem_from u u.installed
 
+-- A problem beside a universe has its versions and its dependencies; the start versions may be others.
+pub record IsProblemOf (u : Universe) (p : Problem) : Type 0 where
+  pub same : p ≡ problem_from u p.starts
+
 -- ---- what is asked of a universe
 
 -- the package of a name
@@ -99,7 +101,7 @@ abbrev pub version_in : Universe → ℕ → Parts → Option ℕ
 version_in u q ps = position (λ v. is_of q v && is_text_of ps v.text) u.versions
 
 abbrev pub nothing_known : Known
-nothing_known = record { package_number = 0; text = None; essential = false; paragraph = None }
+nothing_known = record { package_number = 0; text = None; essential = false }
 
 abbrev pub version_numbered : Universe → ℕ → Known
 version_numbered u v = slice_index_or u.versions v nothing_known

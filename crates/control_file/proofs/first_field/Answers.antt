@@ -2,7 +2,7 @@ use Rattle.std.proofs.Common.{◌≡◌, ◌+◌, ◌-◌, ℕ, List, length, ta
 use Rattle.std.specs.List.{before_first}
 use Rattle.control_file.specs.Text.{is_colon, trimmed, trimmed_front, trimmed_end, without_line_end}
 use Rattle.control_file.specs.Passes.{TakesField}
-use Rattle.control_file.proofs.Fields.{takes_field}
+use Rattle.control_file.proofs.FieldsInOrder.{takes_field}
 use Rattle.control_file.proofs.first_field.Goals as goal
 
 pub returns : goal.returns

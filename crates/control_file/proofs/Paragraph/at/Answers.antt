@@ -1,7 +1,7 @@
 use Rattle.std.proofs.Common.{◌≡◌, ◌<◌, length, drop, ap, sym, ◌∙◌, arith}
 use Rattle.control_file.specs.Text.{ParagraphText, fields_of, lines_from}
 use Rattle.control_file.specs.Fields.{field_text}
-use Rattle.control_file.proofs.Fields.{skips_fields, bytes_left, some_left, drop_next, get_front}
+use Rattle.control_file.proofs.FieldsInOrder.{skips_fields, bytes_left, some_left, drop_next, get_front}
 use Rattle.control_file.proofs.Paragraph.at.Goals as goal
 
 pub loop-init : goal.loop-init

@@ -1,6 +1,6 @@
 use Rattle.std.proofs.Common.{ap, sym, ◌∙◌}
 use Rattle.control_file.specs.Text.{ParagraphText, field_named}
-use Rattle.control_file.proofs.Fields.{skips_fields}
+use Rattle.control_file.proofs.FieldsInOrder.{skips_fields}
 use Rattle.control_file.proofs.Paragraph.field.Goals as goal
 
 pub loop-left-init : goal.loop-left-init

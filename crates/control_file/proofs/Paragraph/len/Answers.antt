@@ -1,6 +1,6 @@
 use Rattle.std.proofs.Common.{◌≡◌, length, ap, arith}
 use Rattle.control_file.specs.Text.{ParagraphText}
-use Rattle.control_file.proofs.Fields.{fields_within_text}
+use Rattle.control_file.proofs.FieldsInOrder.{fields_within_text}
 use Rattle.control_file.proofs.Paragraph.len.Goals as goal
 
 pub returns-clause-within : goal.returns-clause-within

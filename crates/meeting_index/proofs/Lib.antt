@@ -1,0 +1,4 @@
+pub mod CarrierLists
+pub mod NewNames
+pub mod Numbers
+pub mod RisingLists

@@ -1,0 +1,20 @@
+-- The numbers of the versions with a name, and then those of what is provided.
+use Rattle.std.proofs.Common.{◌∙◌, sym, ap, map, length, ◌++◌}
+use Rattle.std.proofs.lemmas.List.{length-map}
+use Rattle.meeting_index.specs.Carriers.{is_named, own}
+use Rattle.meeting_index.specs.Numbers.{numbers_from}
+use Rattle.meeting_index.specs.Provided.{carrier_of}
+use Rattle.meeting_index.proofs.CarrierLists.{named-carriers}
+use Rattle.universe_model.specs.Lists.{map_from}
+use Rattle.universe_parts.specs.Listed.{version_listed}
+use Rattle.meeting_index.proofs.naming.name_carriers.Goals as goal
+
+pub returns : goal.returns
+returns c =
+    λ name.
+    let versions = c.args.versions.now in
+    let provided = map carrier_of c.args.provided.now in
+    c.in_ok-name_provided.ensures name
+    ∙ ap (λ numbers. numbers ++ numbers_from (length versions) (is_named name.bytes.now) provided)
+    (c.in_ok-name_versions.ensures name ∙ ap (λ numbers. numbers ++ numbers_from 0 (is_named name.bytes.now) (map_from own 0 (map version_listed versions))) (c.new-named.ensures name))
+    ∙ named-carriers name.bytes.now (map version_listed versions) provided (length versions) (sym (length-map versions version_listed))

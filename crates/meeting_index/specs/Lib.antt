@@ -1,0 +1,6 @@
+pub mod Carriers
+pub mod IndexFields
+pub mod Indexes
+pub mod Named
+pub mod Numbers
+pub mod Provided

@@ -1,0 +1,98 @@
+// The versions that carriers find.
+
+ghost use Rattle.std.specs.Prelude.{◌≡◌, ◌≤◌, ◌++◌, ◌<◌, ◌^◌, length, map, Some, OnOk};
+ghost use Rattle.std.specs.List.{flat_map, slice_get};
+ghost use Rattle.std.specs.Option.{option_map, option_to_list};
+ghost use Rattle.dep_fields.specs.Relationships.{bound_of};
+ghost use Rattle.universe_model.specs.Versions.{is_release_with};
+ghost use Rattle.universe_model.specs.Meeting.{is_within};
+ghost use Rattle.universe_parts.specs.Listed.{version_listed};
+ghost use Rattle.meeting_index.specs.Carriers.{met_under, own};
+ghost use Rattle.meeting_index.specs.Provided.{carrier_of, carriers_listed};
+
+use crate::named::push;
+use crate::provided::Provided;
+use choice_set::NoMemory;
+use deb_version::Version;
+use dep_fields::Op;
+use universe_parts::{ListedVersion, is_provided_within, is_within};
+
+/// The versions and what they provide. The carriers are numbered: the versions first, by their own numbers.
+#[derive(Clone, Copy)]
+pub struct Carriers<'t, 's, 'a> {
+    pub versions: &'t [ListedVersion<'s, 'a>],
+    pub provided: &'t [Provided<'a>],
+}
+
+/// Adds the versions of the carriers with these numbers that are within a bound.
+pub fn add_met(
+    met: &mut Vec<u32>,
+    carriers: &Carriers<'_, '_, '_>,
+    bound: Option<(Op, Version<'_>)>,
+    numbers: &[u32],
+) -> Result<(), NoMemory>
+    ensures { OnOk result (met.new.items ≡ met.old.items ++ flat_map (λ number. met_under (option_map bound_of bound.entry) (slice_get (carriers_listed carriers.now) number)) numbers.now) }
+{
+    for number in numbers {
+        if let Some(version) = found(carriers, bound, *number) {
+            push(met, version)?;
+        }
+    }
+    Ok(())
+}
+
+// The version of the carrier with a number, if there is one and it is within a bound.
+fn found(
+    carriers: &Carriers<'_, '_, '_>,
+    bound: Option<(Op, Version<'_>)>,
+    number: u32,
+) -> Option<u32>
+    ensures { option_to_list result ≡ met_under (option_map bound_of bound.entry) (slice_get (carriers_listed carriers.now) number) }
+{
+    let place = number as usize;
+    let own = carriers.versions.len();
+    if place < own {
+        own_found(bound, number, &carriers.versions[place])
+    } else if place - own < carriers.provided.len() {
+        provided_found(bound, &carriers.provided[place - own])
+    } else {
+        None
+    }
+}
+
+fn own_found(
+    bound: Option<(Op, Version<'_>)>,
+    number: u32,
+    version: &ListedVersion<'_, '_>,
+) -> Option<u32>
+    ensures { option_to_list result ≡ met_under (option_map bound_of bound.entry) (Some (own number (version_listed version.now))) }
+{
+    if is_release_within(bound, version) {
+        Some(number)
+    } else {
+        None
+    }
+}
+
+fn provided_found(bound: Option<(Op, Version<'_>)>, provided: &Provided<'_>) -> Option<u32>
+    ensures { option_to_list result ≡ met_under (option_map bound_of bound.entry) (Some (carrier_of provided.now)) }
+{
+    if is_provided_within(bound, provided.rel) {
+        Some(provided.version)
+    } else {
+        None
+    }
+}
+
+// Whether a version is within a bound. What is absent is not.
+fn is_release_within(bound: Option<(Op, Version<'_>)>, version: &ListedVersion<'_, '_>) -> bool
+    ensures { result ≡ is_release_with (λ release. is_within (option_map bound_of bound.entry) release.parts) (version_listed version.now).release }
+{
+    let Some(read) = version.read else {
+        return false;
+    };
+    let Some(version) = &read.stanza.version else {
+        return false;
+    };
+    is_within(bound, version)
+}

@@ -1,0 +1,114 @@
+// The index of all versions.
+
+ghost use Rattle.std.specs.Prelude.{◌≡◌, ◌≤◌, ◌++◌, length, map, nat_lt, IsTrue, IfOk, OnOk};
+ghost use Rattle.std.specs.List.{list_all};
+ghost use Rattle.choice_set.specs.Sets.{is_rising};
+ghost use Rattle.dep_fields.specs.Relationships.{meaning};
+ghost use Rattle.dep_fields.specs.Views.{group_items};
+ghost use Rattle.problem.specs.Limits.{most_versions};
+ghost use Rattle.universe_model.specs.Lists.{numbers_of};
+ghost use Rattle.universe_model.specs.Meeting.{meets, meets_any};
+ghost use Rattle.universe_parts.specs.Listed.{version_listed};
+ghost use Rattle.meeting_index.specs.Carriers.{carried};
+
+use crate::found::{Carriers, add_met};
+use crate::named::NamedNumbers;
+use crate::naming::name_carriers;
+use crate::provided::{Provided, list_provided};
+use crate::rising::make_rising;
+use choice_set::NoMemory;
+use dep_fields::{Group, Item};
+use std::alloc::Global;
+use std::marker::Model;
+use universe_parts::{ListedVersion, is_plain};
+
+/// Finds the versions that meet an item of a relationship field, by the names that they carry or provide. A contract sees
+/// it as the native architecture and all versions.
+#[derive(Drop)]
+pub struct MeetingIndex<'s, 'a> {
+    native: &'s [u8],
+    versions: &'s [ListedVersion<'s, 'a>],
+    provided: Vec<Provided<'a>>,
+    named: NamedNumbers<'a>,
+}
+
+impl<'s, 'a> Model for MeetingIndex<'s, 'a> {
+    ghost use Rattle.std.specs.Prelude.{map};
+    ghost use Rattle.meeting_index.specs.Indexes.{Indexed};
+    ghost use Rattle.universe_parts.specs.Listed.{version_listed};
+
+    ghost Value = { Indexed };
+
+    ghost use Rattle.meeting_index.specs.IndexFields.{IsIndexed};
+
+    ghost view = { λ index. record { native = index.native.now; versions = map version_listed index.versions.now } };
+
+    ghost invariant = { IsIndexed };
+}
+
+impl<'s, 'a> MeetingIndex<'s, 'a> {
+    /// An index of all versions, in order.
+    ///
+    /// The only error is `NoMemory`.
+    pub fn new(
+        alloc: Global,
+        native: &'s [u8],
+        versions: &'s [ListedVersion<'s, 'a>],
+    ) -> Result<MeetingIndex<'s, 'a>, NoMemory>
+        requires { length versions.now ≤ most_versions }
+        ensures { IfOk result (λ index. index ≡ record { native = native.now; versions = map version_listed versions.now }) }
+    {
+        let provided = list_provided(alloc, native, versions)?;
+        let named = name_carriers(alloc, versions, provided.as_slice())?;
+        Ok(MeetingIndex {
+            native,
+            versions,
+            provided,
+            named,
+        })
+    }
+
+    /// The numbers of the versions that meet an item, rising (Debian Policy 7.1 and 7.5).
+    ///
+    /// The only error is `NoMemory`.
+    pub fn met_by(&self, item: &Item<'_>, met: &mut Vec<u32>) -> Result<(), NoMemory>
+        ensures met { OnOk result (met.new.items ≡ numbers_of (meets self.now.native (meaning item.now)) self.now.versions) }
+        ensures rising { OnOk result (IsTrue (is_rising met.new.items)) }
+        ensures within { OnOk result (IsTrue (list_all (λ v. nat_lt v (length self.now.versions)) met.new.items)) }
+    {
+        met.clear();
+        self.add_met_by(item, met)?;
+        make_rising(met);
+        Ok(())
+    }
+
+    /// The numbers of the versions that meet one of the items of a group, rising: the targets of the group.
+    ///
+    /// The only error is `NoMemory`.
+    pub fn targets(&self, group: &Group<'_>, targets: &mut Vec<u32>) -> Result<(), NoMemory>
+        ensures targets { OnOk result (targets.new.items ≡ numbers_of (meets_any self.now.native (group_items group.now)) self.now.versions) }
+        ensures rising { OnOk result (IsTrue (is_rising targets.new.items)) }
+        ensures within { OnOk result (IsTrue (list_all (λ v. nat_lt v (length self.now.versions)) targets.new.items)) }
+    {
+        targets.clear();
+        for item in group.items() {
+            self.add_met_by(&item, targets)?;
+        }
+        make_rising(targets);
+        Ok(())
+    }
+
+    // Adds the versions whose carriers meet an item.
+    fn add_met_by(&self, item: &Item<'_>, met: &mut Vec<u32>) -> Result<(), NoMemory>
+        ensures { OnOk result (met.new.items ≡ met.old.items ++ carried self.now.native self.now.versions (meaning item.now)) }
+    {
+        if !is_plain(self.native, item.arch) {
+            return Ok(());
+        }
+        let carriers = Carriers {
+            versions: self.versions,
+            provided: self.provided.as_slice(),
+        };
+        add_met(met, &carriers, item.rel, self.named.at(item.name))
+    }
+}

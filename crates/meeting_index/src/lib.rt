@@ -1,0 +1,14 @@
+//! Which versions meet an item of a relationship field (Debian Policy 7.1 and 7.5), found by the names that they carry or
+//! provide.
+#![tactic(auto)]
+
+mod found;
+mod index;
+mod named;
+mod naming;
+mod provided;
+mod rising;
+#[cfg(test)]
+mod tests;
+
+pub use index::MeetingIndex;

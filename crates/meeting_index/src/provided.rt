@@ -1,0 +1,109 @@
+// The items of Provides of all versions.
+
+ghost use Rattle.std.specs.Prelude.{◌≡◌, ◌≤◌, ◌++◌, ◌∷◌, [], ◌<◌, ◌^◌, length, map, if◌then◌else◌, IfOk, OnOk};
+ghost use Rattle.std.specs.List.{flat_map};
+ghost use Rattle.dep_fields.specs.Relationships.{meaning};
+ghost use Rattle.dep_fields.specs.Views.{group_items};
+ghost use Rattle.problem.specs.Limits.{most_versions};
+ghost use Rattle.universe_model.specs.Versions.{single_groups_of};
+ghost use Rattle.universe_parts.specs.Listed.{version_listed};
+ghost use Rattle.meeting_index.specs.Carriers.{all_provided, has_plain_arch, provided, provided_by, provided_in};
+ghost use Rattle.meeting_index.specs.Provided.{carrier_of};
+
+use choice_set::NoMemory;
+use deb_version::Version;
+use dep_fields::{Group, Groups, Item, Op};
+use std::alloc::Global;
+use universe_parts::{ListedVersion, is_plain};
+
+/// An item of Provides: the number of the version that provides it, its name and its bound.
+#[derive(Clone, Copy)]
+pub struct Provided<'a> {
+    pub rel: Option<(Op, Version<'a>)>,
+    pub name: &'a [u8],
+    pub version: u32,
+}
+
+/// What all versions provide, in order. Items with another architecture are left out.
+pub fn list_provided<'a>(
+    alloc: Global,
+    native: &[u8],
+    versions: &[ListedVersion<'_, 'a>],
+) -> Result<Vec<Provided<'a>>, NoMemory>
+    requires { length versions.now ≤ most_versions }
+    ensures { IfOk result (λ list. map carrier_of list.items ≡ all_provided native.now (map version_listed versions.now)) }
+{
+    let mut list = Vec::new(alloc);
+    let mut number = 0;
+    for version in versions {
+        add_version(&mut list, native, number, version)?;
+        number += 1;
+    }
+    Ok(list)
+}
+
+fn add_version<'a>(
+    list: &mut Vec<Provided<'a>>,
+    native: &[u8],
+    number: u32,
+    version: &ListedVersion<'_, 'a>,
+) -> Result<(), NoMemory>
+    ensures { OnOk result (map carrier_of list.new.items ≡ map carrier_of list.old.items ++ provided_by native.now number (version_listed version.now)) }
+{
+    match version.read {
+        None => Ok(()),
+        Some(read) => add_groups(list, native, number, read.stanza.provides),
+    }
+}
+
+#[tactic(auto, unfolding(dep_fields::specs::Fields::field_of))]
+fn add_groups<'a>(
+    list: &mut Vec<Provided<'a>>,
+    native: &[u8],
+    number: u32,
+    provides: &'a [u8],
+) -> Result<(), NoMemory>
+    ensures { OnOk result (map carrier_of list.new.items ≡ map carrier_of list.old.items ++ flat_map (provided_in native.now number) (single_groups_of provides.now)) }
+{
+    let mut groups = Groups::new(provides, false);
+    while let Ok(Some(group)) = groups.next() {
+        add_group(list, native, number, &group)?;
+    }
+    Ok(())
+}
+
+fn add_group<'a>(
+    list: &mut Vec<Provided<'a>>,
+    native: &[u8],
+    number: u32,
+    group: &Group<'a>,
+) -> Result<(), NoMemory>
+    ensures { OnOk result (map carrier_of list.new.items ≡ map carrier_of list.old.items ++ provided_in native.now number (group_items group.now)) }
+{
+    for item in group.items() {
+        add_item(list, native, number, &item)?;
+    }
+    Ok(())
+}
+
+fn add_item<'a>(
+    list: &mut Vec<Provided<'a>>,
+    native: &[u8],
+    number: u32,
+    item: &Item<'a>,
+) -> Result<(), NoMemory>
+    ensures { OnOk result (map carrier_of list.new.items ≡ map carrier_of list.old.items ++ (if has_plain_arch native.now (meaning item.now) then provided number (meaning item.now) ∷ [] else [])) }
+{
+    if !is_plain(native, item.arch) {
+        return Ok(());
+    }
+    let provided = Provided {
+        rel: item.rel,
+        name: item.name,
+        version: number,
+    };
+    match list.push(provided) {
+        Ok(()) => Ok(()),
+        Err(_) => Err(NoMemory),
+    }
+}

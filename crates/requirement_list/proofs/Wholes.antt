@@ -1,0 +1,49 @@
+-- The dependencies of all versions, one version after another, and as a whole list.
+use Rattle.std.proofs.Common.{◌≡◌, ◌<◌, ◌+◌, ℕ, zero, suc, List, [], ◌∷◌, Bool, true, length, map, get_or, drop, drop-cons, add-one, ap, sym, ◌∙◌, arith}
+use Rattle.std.specs.List.{list_all}
+use Rattle.std.proofs.lemmas.List.{append-nil}
+use Rattle.std.proofs.lemmas.Bool.{and_parts}
+use Rattle.resolver_model.specs.Problems.{Problem}
+use Rattle.meeting_index.specs.Indexes.{Indexed}
+use Rattle.universe_model.specs.Dependencies.{Requirement, Setting}
+use Rattle.universe_model.specs.Universes.{dependency_in}
+use Rattle.universe_model.specs.declared.BuildEnd.{BuildEnd}
+use Rattle.requirement_list.specs.declared.collected.Collected.{Collected}
+use Rattle.requirement_list.specs.declared.RequirementList.{RequirementList}
+use Rattle.requirement_list.specs.Settings.{setting_of}
+use Rattle.requirement_list.specs.Collecting.{HasLeft, HasCome, HasEnded}
+use Rattle.requirement_list.specs.RequirementLists.{IsEndOf, IsRequirementList}
+
+-- a test that all pass, at one
+pub passes_at : {A B : Type 0} (t : B → Bool) (f : A → B) (xs : List A) → list_all t (map f xs) ≡ true → (k : ℕ) (d : A) → k < length xs → t (f (get_or xs k d)) ≡ true
+passes_at t f [] h k d lt = absurd (omega arith)
+passes_at t f (x ∷ xs) h zero d lt = (and_parts (t (f x)) _ h).0
+passes_at t f (x ∷ xs) h (suc k) d lt = passes_at t f xs (and_parts (t (f x)) _ h).1 k d (omega arith)
+
+-- what is left from a place on
+pub drop_at : {A : Type 0} (xs : List A) (k : ℕ) (x : A) → k < length xs → x ≡ get_or xs k x → drop k xs ≡ x ∷ drop (k + 1) xs
+drop_at xs k x lt e = drop-cons xs k x lt ∙ ap (λ y. y ∷ drop (suc k) xs) (sym e) ∙ ap (λ n. x ∷ drop n xs) (sym (add-one k))
+
+-- the setting of an index and of nothing collected
+pub same_setting : (index given : Indexed) (c : Collected) (packages : Problem) → index ≡ given → c.builder ≡ packages
+    → setting_of index c ≡ record { native = given.native; versions = given.versions; installed = packages.starts }
+same_setting index given c packages e b =
+    ap (λ (i : Indexed). setting_of i c) e
+    ∙ ap (λ (p : Problem). let s : Setting = record { native = given.native; versions = given.versions; installed = p.starts } in s) b
+
+pub whole_end : (rs : List Requirement) (c : Collected) (end : BuildEnd) → HasLeft rs rs c → HasEnded rs c end → IsEndOf rs end
+whole_end rs c end left h = h.each rs [] (rw append-nil left)
+
+pub whole_left : (rs : List Requirement) (old new : Collected) → HasLeft rs rs old → HasCome rs [] old new → HasLeft rs [] new
+whole_left rs old new left h = h.left rs [] (rw append-nil left)
+
+-- a list over the packages of one problem is one over those of another that has the same
+pub list_over : (p q : Problem) (rs : List Requirement) (list : RequirementList) → p.owners ≡ q.owners → p.starts ≡ q.starts → IsRequirementList p rs list → IsRequirementList q rs list
+list_over p q rs list owners starts h = record {
+  problem = h.problem
+      ∙ ap (λ os. let r : Problem = record { owners = os; starts = p.starts; dependencies = map dependency_in rs } in r) owners
+      ∙ ap (λ ss. let r : Problem = record { owners = q.owners; starts = ss; dependencies = map dependency_in rs } in r) starts;
+  groups = h.groups;
+  conflicts = h.conflicts;
+  within = h.within;
+}

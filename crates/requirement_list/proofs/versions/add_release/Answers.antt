@@ -1,0 +1,75 @@
+use Rattle.std.proofs.lemmas.Result.{err_from_is_err_and, MatchResult-weaker}
+use Rattle.requirement_list.specs.Settings.{setting_of}
+use Rattle.requirement_list.proofs.Collecting.{come_none, come_step, come_last, ended_step, ended_last}
+use Rattle.requirement_list.proofs.Releases.{needed, wished, opposed, from_conflicts, from_recommends, from_depends, of_stanza}
+use Rattle.requirement_list.proofs.versions.add_release.Goals as goal
+
+pub returns-in_err-add_groups : goal.returns-in_err-add_groups
+returns-in_err-add_groups c =
+    let index = c.args.index.now in
+    let a = c.args.collected.now in
+    let source = c.args.source in
+    let own = c.args.own in
+    let st = c.args.read.now.stanza in
+    let s = setting_of index a in
+    let all = of_stanza source own st s in
+    let e = err_from_is_err_and c.from_residual.result c.from_residual.ensures.1 in
+    rw (e.1, e.2) (ended_step index a a all (from_depends source own st s) (needed source st.pre_depends.now) _ (come_none all a) c.in_err-add_groups.ensures)
+
+pub returns-in_err-add_groups-2 : goal.returns-in_err-add_groups-2
+returns-in_err-add_groups-2 c =
+    let index = c.args.index.now in
+    let a = c.args.collected.now in
+    let source = c.args.source in
+    let own = c.args.own in
+    let st = c.args.read.now.stanza in
+    let s = setting_of index a in
+    let all = of_stanza source own st s in
+    let come1 = come_step index a a c.add_groups.new.collected all (from_depends source own st s) (needed source st.pre_depends.now) (come_none all a) c.in_ok-add_groups.ensures in
+    let e = err_from_is_err_and c.from_residual-in_err-add_groups-2.result c.from_residual-in_err-add_groups-2.ensures.1 in
+    rw (e.1, e.2) (ended_step index a c.add_groups.new.collected all (from_recommends source own st s) (needed source st.depends.now) _ come1 c.in_err-add_groups-2.ensures)
+
+pub returns-in_err-add_recommends : goal.returns-in_err-add_recommends
+returns-in_err-add_recommends c =
+    let index = c.args.index.now in
+    let a = c.args.collected.now in
+    let source = c.args.source in
+    let own = c.args.own in
+    let st = c.args.read.now.stanza in
+    let s = setting_of index a in
+    let all = of_stanza source own st s in
+    let come1 = come_step index a a c.add_groups.new.collected all (from_depends source own st s) (needed source st.pre_depends.now) (come_none all a) c.in_ok-add_groups.ensures in
+    let come2 = come_step index a c.add_groups.new.collected c.add_groups-2.new.collected all (from_recommends source own st s) (needed source st.depends.now) come1 c.in_ok-add_groups-2.ensures in
+    let e = err_from_is_err_and c.from_residual-in_err-add_recommends.result c.from_residual-in_err-add_recommends.ensures.1 in
+    rw (e.1, e.2) (ended_step index a c.add_groups-2.new.collected all (from_conflicts source own st s) (wished source st.recommends.now) _ come2 c.in_err-add_recommends.ensures)
+
+pub returns-in_err-add_conflicts : goal.returns-in_err-add_conflicts
+returns-in_err-add_conflicts c =
+    let index = c.args.index.now in
+    let a = c.args.collected.now in
+    let source = c.args.source in
+    let own = c.args.own in
+    let st = c.args.read.now.stanza in
+    let s = setting_of index a in
+    let all = of_stanza source own st s in
+    let come1 = come_step index a a c.add_groups.new.collected all (from_depends source own st s) (needed source st.pre_depends.now) (come_none all a) c.in_ok-add_groups.ensures in
+    let come2 = come_step index a c.add_groups.new.collected c.add_groups-2.new.collected all (from_recommends source own st s) (needed source st.depends.now) come1 c.in_ok-add_groups-2.ensures in
+    let come3 = come_step index a c.add_groups-2.new.collected c.add_recommends.new.collected all (from_conflicts source own st s) (wished source st.recommends.now) come2 c.in_ok-add_recommends.ensures in
+    let e = err_from_is_err_and c.from_residual-in_err-add_conflicts.result c.from_residual-in_err-add_conflicts.ensures.1 in
+    rw (e.1, e.2) (ended_step index a c.add_recommends.new.collected all (opposed source own st.breaks.now s) (opposed source own st.conflicts.now) _ come3 c.in_err-add_conflicts.ensures)
+
+pub returns : goal.returns
+returns c =
+    let index = c.args.index.now in
+    let a = c.args.collected.now in
+    let source = c.args.source in
+    let own = c.args.own in
+    let st = c.args.read.now.stanza in
+    let s = setting_of index a in
+    let all = of_stanza source own st s in
+    let come1 = come_step index a a c.add_groups.new.collected all (from_depends source own st s) (needed source st.pre_depends.now) (come_none all a) c.in_ok-add_groups.ensures in
+    let come2 = come_step index a c.add_groups.new.collected c.add_groups-2.new.collected all (from_recommends source own st s) (needed source st.depends.now) come1 c.in_ok-add_groups-2.ensures in
+    let come3 = come_step index a c.add_groups-2.new.collected c.add_recommends.new.collected all (from_conflicts source own st s) (wished source st.recommends.now) come2 c.in_ok-add_recommends.ensures in
+    let come4 = come_step index a c.add_recommends.new.collected c.add_conflicts.new.collected all (opposed source own st.breaks.now s) (opposed source own st.conflicts.now) come3 c.in_ok-add_conflicts.ensures in
+    MatchResult-weaker c.add_conflicts-2.result c.add_conflicts-2.ensures (λ _ h. come_last index a c.add_conflicts.new.collected c.add_conflicts-2.new.collected all (opposed source own st.breaks.now) come4 h)
+    (λ end h. ended_last index a c.add_conflicts.new.collected all (opposed source own st.breaks.now) end come4 h)

@@ -1,0 +1,32 @@
+use Rattle.std.proofs.Common.{◌≡◌, ◌+◌, List, true, map, drop, sym, subst}
+use Rattle.std.proofs.lemmas.Result.{err_from_is_err_and}
+use Rattle.universe_model.specs.Lists.{map_from}
+use Rattle.universe_model.specs.Versions.{concat}
+use Rattle.universe_model.specs.Limits.{are_groups_few}
+use Rattle.universe_model.specs.Dependencies.{Setting, of_version, requirements}
+use Rattle.universe_parts.specs.Listed.{version_listed}
+use Rattle.universe_parts.specs.declared.listed.ListedVersion.{ListedVersion}
+use Rattle.requirement_list.specs.Settings.{setting_of}
+use Rattle.requirement_list.specs.Collecting.{HasCome}
+use Rattle.requirement_list.proofs.Collecting.{ended_step}
+use Rattle.requirement_list.proofs.Wholes.{passes_at, drop_at}
+use Rattle.requirement_list.proofs.versions.add_versions.Goals as goal
+
+pub add_version-requires-clause-few : goal.add_version-requires-clause-few
+add_version-requires-clause-few c =
+    let v = c.index-versions-number.result in
+    let P : ListedVersion → Type 0 = λ v. are_groups_few (version_listed v) ≡ true in
+    subst P (sym c.index-versions-number.is) (passes_at are_groups_few version_listed c.args.versions.now c.requires.groups c.loop-number.number v c.loop-number-test.true)
+
+pub returns-in_err-add_version : goal.returns-in_err-add_version
+returns-in_err-add_version c =
+    let index = c.args.index.now in
+    let a = c.args.collected.now in
+    let s = setting_of index a in
+    let k = c.loop-number.number in
+    let v = c.index-versions-number.result in
+    let vs = c.args.versions.now in
+    let P : List ListedVersion → Type 0 = λ left. HasCome (requirements s) (concat (map_from (of_version s) k (map version_listed left))) a c.loop-number.collected in
+    let come = subst P (drop_at vs k v c.loop-number-test.true c.index-versions-number.is) c.loop-number.invariant in
+    let e = err_from_is_err_and c.from_residual.result c.from_residual.ensures.1 in
+    rw (e.1, e.2) (ended_step index a c.loop-number.collected (requirements s) (concat (map_from (of_version s) (k + 1) (map version_listed (drop (k + 1) vs)))) (λ (t : Setting). of_version t k (version_listed v)) _ come c.in_err-add_version.ensures)

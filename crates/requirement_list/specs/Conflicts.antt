@@ -1,0 +1,27 @@
+-- The versions of a package that an item leaves, by those that meet it.
+use Rattle.std.specs.Prelude.{◌≡◌, ℕ, true, nat_lt, ◌&&◌, ◌==◌, not, List, [], ◌∷◌, nat_le, if◌then◌else◌}
+use Rattle.std.specs.List.{filter, list_all}
+use Rattle.choice_set.specs.Sets.{has, is_rising}
+use Rattle.problem.specs.Places.{absent_of, end_of}
+use Rattle.resolver_model.specs.Problems.{Problem, below, version_count}
+use Rattle.universe_model.specs.Dependencies.{Requirement}
+use Rattle.requirement_list.specs.Fields.{requirement_of}
+use Rattle.requirement_list.specs.declared.collected.Field.TheVariants.{Conflicts}
+
+-- the numbers from one to before another that are not among the met ones
+abbrev pub unmet : List ℕ → ℕ → ℕ → List ℕ
+unmet met first end = filter (λ v. nat_le first v && not (has met v)) (below end)
+
+-- the versions of a package that are not among the met ones
+abbrev pub left_of : Problem → List ℕ → ℕ → List ℕ
+left_of p met q = unmet met (absent_of p q) (end_of p q)
+
+-- they rise, and are versions
+pub record AreLeft (p : Problem) (met : List ℕ) (q : ℕ) (targets : List ℕ) : Type 0 where
+  pub numbers : targets ≡ left_of p met q
+  pub rising : is_rising targets ≡ true
+  pub range : list_all (λ v. nat_lt v (version_count p)) targets ≡ true
+
+-- the dependency on them, if the package is not the source's own
+abbrev pub of_package : Problem → ℕ → ℕ → List ℕ → ℕ → List Requirement
+of_package p source own met q = if q == own then [] else requirement_of Conflicts source (left_of p met q) ∷ []

@@ -1,0 +1,5 @@
+pub mod RequirementLists
+pub mod Settings
+pub mod Fields
+pub mod Conflicts
+pub mod Collecting

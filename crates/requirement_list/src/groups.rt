@@ -1,0 +1,160 @@
+//! The dependencies of the groups of a field: of Pre-Depends and Depends, and of Recommends (Debian Policy 7.2).
+
+ghost use Rattle.std.specs.Prelude.{◌≡◌, ◌<◌, ◌≤◌, ◌∷◌, [], map, length, true, not, ◌&&◌, None, IsTrue, nat_lt, MatchOption, MatchResult};
+ghost use Rattle.std.specs.List.{filter, list_all, list_any};
+ghost use Rattle.choice_set.specs.Sets.{has};
+ghost use Rattle.resolver_model.specs.Problems.{version_count};
+ghost use Rattle.dep_fields.specs.Views.{field_left, group_items};
+ghost use Rattle.stanza.specs.Fields.{is_relation};
+ghost use Rattle.universe_model.specs.Versions.{groups_of};
+ghost use Rattle.universe_model.specs.Dependencies.{of_group, recommended, is_broken_now, of_recommends};
+ghost use Rattle.universe_model.specs.Limits.{most_groups};
+ghost use Rattle.requirement_list.specs.Settings.{owners_of, setting_of, AreTargets};
+ghost use Rattle.universe_model.specs.declared.BuildEnd.TheVariants.{NoMemory};
+ghost use Rattle.requirement_list.specs.Collecting.{Adds};
+
+use crate::collected::{Collected, Field};
+use dep_fields::{Group, Groups};
+use meeting_index::MeetingIndex;
+use problem::Problem;
+use universe_model::BuildEnd;
+
+/// The next group of a field without fault.
+pub fn next_group<'a>(groups: &mut Groups<'a>) -> Option<Group<'a>>
+    requires { (field_left groups.old).fault ≡ None }
+    ensures fault { (field_left groups.new).fault ≡ None }
+    ensures group { MatchOption result ((field_left groups.old).groups ≡ []) (λ group. (field_left groups.old).groups ≡ group_items group ∷ (field_left groups.new).groups) }
+{
+    match groups.next() {
+        Ok(group) => group,
+        Err(_) => None,
+    }
+}
+
+// Lists the targets of a group.
+fn list_targets(
+    index: &MeetingIndex<'_, '_>,
+    group: &Group<'_>,
+    targets: &mut Vec<u32>,
+) -> Result<(), BuildEnd>
+    ensures { MatchResult result (λ _. AreTargets index.now (group_items group.now) targets.new.items) (λ end. end ≡ NoMemory) }
+{
+    match index.targets(group, targets) {
+        Ok(()) => Ok(()),
+        Err(_) => Err(BuildEnd::NoMemory),
+    }
+}
+
+// Adds the dependency of a group of Pre-Depends or Depends.
+fn add_group(
+    index: &MeetingIndex<'_, '_>,
+    collected: &mut Collected,
+    source: u32,
+    group: &Group<'_>,
+    targets: &mut Vec<u32>,
+) -> Result<(), BuildEnd>
+    requires owners { collected.old.builder.owners ≡ owners_of index.now.versions }
+    requires source { source < length index.now.versions }
+    ensures { Adds (of_group (setting_of index.now collected.old) source (group_items group.now) ∷ []) collected.old result collected.new }
+{
+    list_targets(index, group, targets)?;
+    collected.add(source, targets.as_slice(), Field::Needs)
+}
+
+/// Adds the dependencies of Pre-Depends or of Depends. `targets` is room that is used again.
+#[tactic(auto, unfolding(dep_fields::specs::Fields::field_of))]
+pub fn add_groups(
+    index: &MeetingIndex<'_, '_>,
+    collected: &mut Collected,
+    source: u32,
+    value: &[u8],
+    targets: &mut Vec<u32>,
+) -> Result<(), BuildEnd>
+    requires owners { collected.old.builder.owners ≡ owners_of index.now.versions }
+    requires source { source < length index.now.versions }
+    requires read { is_relation true value.now ≡ true }
+    ensures { Adds (map (of_group (setting_of index.now collected.old) source) (groups_of value.now)) collected.old result collected.new }
+{
+    let mut groups = Groups::new(value, true);
+    while let Some(group) = next_group(&mut groups) {
+        add_group(index, collected, source, &group, targets)?;
+    }
+    Ok(())
+}
+
+// Whether a version is the installed one of its package.
+fn is_installed(problem: &Problem, version: u32) -> bool
+    requires { version < version_count problem.now }
+    ensures { result ≡ has problem.now.starts version }
+{
+    // it tells that a start version is one of its package
+    let _versions = problem.versions();
+    problem.start_of(problem.package_of(version)) == version
+}
+
+// Whether one of these versions is the installed one of its package.
+fn is_any_installed(problem: &Problem, versions: &[u32]) -> bool
+    requires { IsTrue (list_all (λ v. nat_lt v (version_count problem.now)) versions.now) }
+    ensures { result ≡ list_any (has problem.now.starts) versions.now }
+{
+    for version in versions {
+        if is_installed(problem, *version) {
+            return true;
+        }
+    }
+    false
+}
+
+// Whether a dependency is broken in the installed state.
+fn is_broken(problem: &Problem, source: u32, targets: &[u32]) -> bool
+    requires source { source < version_count problem.now }
+    requires range { IsTrue (list_all (λ v. nat_lt v (version_count problem.now)) targets.now) }
+    ensures { result ≡ (has problem.now.starts source && not (list_any (has problem.now.starts) targets.now)) }
+{
+    is_installed(problem, source) && !is_any_installed(problem, targets)
+}
+
+// Adds the dependency of a group of Recommends, unless it is broken in the installed state.
+fn add_recommended(
+    index: &MeetingIndex<'_, '_>,
+    collected: &mut Collected,
+    source: u32,
+    place: u32,
+    group: &Group<'_>,
+    targets: &mut Vec<u32>,
+) -> Result<(), BuildEnd>
+    requires owners { collected.old.builder.owners ≡ owners_of index.now.versions }
+    requires source { source < length index.now.versions }
+    ensures { let s = setting_of index.now collected.old in
+        Adds (filter (λ r. not (is_broken_now s r)) (recommended s source place (group_items group.now) ∷ [])) collected.old result collected.new }
+{
+    list_targets(index, group, targets)?;
+    if is_broken(collected.builder.problem(), source, targets.as_slice()) {
+        return Ok(());
+    }
+    collected.add(source, targets.as_slice(), Field::Recommends(place))
+}
+
+/// Adds the dependencies of Recommends. Groups are counted from 1, also those that give no dependency.
+#[tactic(auto, unfolding(dep_fields::specs::Fields::field_of))]
+pub fn add_recommends(
+    index: &MeetingIndex<'_, '_>,
+    collected: &mut Collected,
+    source: u32,
+    value: &[u8],
+    targets: &mut Vec<u32>,
+) -> Result<(), BuildEnd>
+    requires owners { collected.old.builder.owners ≡ owners_of index.now.versions }
+    requires source { source < length index.now.versions }
+    requires read { is_relation true value.now ≡ true }
+    requires few { length (groups_of value.now) ≤ most_groups }
+    ensures { Adds (of_recommends (setting_of index.now collected.old) source (groups_of value.now)) collected.old result collected.new }
+{
+    let mut groups = Groups::new(value, true);
+    let mut place = 0;
+    while let Some(group) = next_group(&mut groups) {
+        place += 1;
+        add_recommended(index, collected, source, place, &group, targets)?;
+    }
+    Ok(())
+}

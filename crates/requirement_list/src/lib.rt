@@ -1,0 +1,76 @@
+//! The dependencies of listed versions (Debian Policy 7.2 to 7.4), after Burrows, "Modelling and Resolving Software
+//! Dependencies".
+#![tactic(auto)]
+
+ghost use Rattle.std.specs.Prelude.{◌≡◌, ◌⊎◌, [], Some, IsTrue, map, option_map, MatchResult};
+ghost use Rattle.std.specs.List.{list_all};
+ghost use Rattle.universe_model.specs.Faults.{build_end};
+ghost use Rattle.universe_model.specs.Dependencies.{Setting, requirements};
+ghost use Rattle.universe_model.specs.Limits.{are_groups_few};
+ghost use Rattle.universe_model.specs.declared.BuildEnd.TheVariants.{NoMemory};
+ghost use Rattle.universe_parts.specs.Listed.{version_listed};
+ghost use Rattle.requirement_list.specs.Settings.{owners_of};
+ghost use Rattle.requirement_list.specs.RequirementLists.{IsRequirementList, requirement_refusal};
+
+mod collected;
+mod conflicts;
+mod groups;
+#[cfg(test)]
+mod tests;
+mod versions;
+
+use collected::Collected;
+use meeting_index::MeetingIndex;
+use problem::{Builder, Problem};
+use std::alloc::Global;
+use universe_model::BuildEnd;
+use universe_parts::ListedVersion;
+use versions::add_versions;
+
+/// The problem with all dependencies, and for each of them the place from 1 of its group in Recommends, 0 for another field,
+/// and whether it is one of Conflicts or Breaks.
+#[derive(Debug, Drop)]
+pub struct RequirementList {
+    pub problem: Problem,
+    pub groups: Vec<u32>,
+    pub conflicts: Vec<bool>,
+}
+
+// Room that is used again for each dependency: for the versions that meet an item, and for targets.
+#[derive(Drop)]
+struct Room {
+    met: Vec<u32>,
+    targets: Vec<u32>,
+}
+
+/// Lists the dependencies of all versions in order, as a problem over the packages of the builder, which has the installed
+/// versions as start versions. For each version they are one for each group of Pre-Depends, Depends and Recommends, and then
+/// those of Conflicts and of Breaks (Debian Policy 7.2 to 7.4).
+///
+/// The errors are the limit of the count of dependencies, or else that of the count of their targets, where one is exceeded,
+/// and `NoMemory`.
+pub fn list_requirements<'s, 'a>(
+    alloc: Global,
+    native: &'s [u8],
+    versions: &'s [ListedVersion<'s, 'a>],
+    builder: Builder,
+) -> Result<RequirementList, BuildEnd>
+    requires owners { builder.owners ≡ owners_of (map version_listed versions.now) }
+    requires none { builder.dependencies ≡ [] }
+    requires few { IsTrue (list_all are_groups_few (map version_listed versions.now)) }
+    ensures { let rs = requirements (record { native = native.now; versions = map version_listed versions.now; installed = builder.starts }) in
+        MatchResult result (IsRequirementList builder rs) (λ end. (end ≡ NoMemory) ⊎ (option_map build_end (requirement_refusal rs) ≡ Some end)) }
+{
+    // it tells that there are not too many versions
+    let _versions = builder.problem().versions();
+    let Ok(index) = MeetingIndex::new(alloc, native, versions) else {
+        return Err(BuildEnd::NoMemory);
+    };
+    let mut collected = Collected::new(alloc, builder);
+    let mut room = Room {
+        met: Vec::new(alloc),
+        targets: Vec::new(alloc),
+    };
+    add_versions(&index, &mut collected, versions, &mut room)?;
+    collected.finish()
+}

@@ -1,0 +1,91 @@
+//! The dependencies of a version, and of all versions in order.
+
+ghost use Rattle.std.specs.Prelude.{◌≡◌, ◌<◌, ◌≤◌, true, IsTrue, Some, map, length};
+ghost use Rattle.std.specs.List.{list_all};
+ghost use Rattle.problem.specs.Limits.{most_versions};
+ghost use Rattle.universe_model.specs.Versions.{groups_of, release_of};
+ghost use Rattle.universe_model.specs.Dependencies.{of_release, of_version, requirements};
+ghost use Rattle.universe_model.specs.Limits.{most_groups, are_groups_few};
+ghost use Rattle.universe_parts.specs.Listed.{stanza_read, version_listed};
+ghost use Rattle.requirement_list.specs.Settings.{owners_of, setting_of};
+ghost use Rattle.requirement_list.specs.Collecting.{Adds};
+
+use crate::Room;
+use crate::collected::Collected;
+use crate::conflicts::add_conflicts;
+use crate::groups::{add_groups, add_recommends};
+use meeting_index::MeetingIndex;
+use universe_model::BuildEnd;
+use universe_parts::{ListedVersion, ReadStanza};
+
+// Adds the dependencies of a version of the package `own` that is read.
+fn add_release(
+    index: &MeetingIndex<'_, '_>,
+    collected: &mut Collected,
+    source: u32,
+    own: u32,
+    read: &ReadStanza<'_>,
+    room: &mut Room,
+) -> Result<(), BuildEnd>
+    requires owners { collected.old.builder.owners ≡ owners_of index.now.versions }
+    requires source { source < length index.now.versions }
+    requires few { length (groups_of read.now.stanza.recommends.now) ≤ most_groups }
+    ensures { Adds (of_release (setting_of index.now collected.old) source own (Some (release_of (stanza_read read.now)))) collected.old result collected.new }
+{
+    let stanza = &read.stanza;
+    add_groups(
+        index,
+        collected,
+        source,
+        stanza.pre_depends,
+        &mut room.targets,
+    )?;
+    add_groups(index, collected, source, stanza.depends, &mut room.targets)?;
+    add_recommends(
+        index,
+        collected,
+        source,
+        stanza.recommends,
+        &mut room.targets,
+    )?;
+    add_conflicts(index, collected, source, own, stanza.conflicts, room)?;
+    add_conflicts(index, collected, source, own, stanza.breaks, room)
+}
+
+/// Adds the dependencies of a version. What is absent has none.
+pub fn add_version(
+    index: &MeetingIndex<'_, '_>,
+    collected: &mut Collected,
+    source: u32,
+    version: &ListedVersion<'_, '_>,
+    room: &mut Room,
+) -> Result<(), BuildEnd>
+    requires owners { collected.old.builder.owners ≡ owners_of index.now.versions }
+    requires source { source < length index.now.versions }
+    requires few { are_groups_few (version_listed version.now) ≡ true }
+    ensures { Adds (of_version (setting_of index.now collected.old) source (version_listed version.now)) collected.old result collected.new }
+{
+    match version.read {
+        None => Ok(()),
+        Some(read) => add_release(index, collected, source, version.package, read, room),
+    }
+}
+
+/// Adds the dependencies of all versions, in order.
+pub fn add_versions(
+    index: &MeetingIndex<'_, '_>,
+    collected: &mut Collected,
+    versions: &[ListedVersion<'_, '_>],
+    room: &mut Room,
+) -> Result<(), BuildEnd>
+    requires owners { collected.old.builder.owners ≡ owners_of index.now.versions }
+    requires all { index.now.versions ≡ map version_listed versions.now }
+    requires few { length versions.now ≤ most_versions }
+    requires groups { IsTrue (list_all are_groups_few (map version_listed versions.now)) }
+    ensures { Adds (requirements (setting_of index.now collected.old)) collected.old result collected.new }
+{
+    for (number, version) in versions.iter().enumerate() {
+        add_version(index, collected, number as u32, version, room)?;
+    }
+    Ok(())
+}

@@ -1,0 +1,7 @@
+mod Zips
+mod Kept
+mod Digits
+mod Walks
+mod Built
+mod Making
+mod Whole

@@ -1,0 +1,165 @@
+//! What is found in a universe: versions, and the choices that tokens name.
+
+ghost use Rattle.std.specs.Prelude.{◌≡◌, ◌<◌, ◌++◌, ◌∷◌, [], ℕ, Ok, Err, None, Some, OnOk, length, option_map, cond, ◌&&◌};
+ghost use Rattle.std.specs.List.{position};
+ghost use Rattle.deb_version.specs.Versions.{parts};
+ghost use Rattle.resolver_model.specs.Problems.{is_install, leave_of};
+ghost use Rattle.universe_model.specs.Universes.{IsProblemOf, version_in, version_numbered, requirement_numbered, is_text_of, name_of_package};
+ghost use Rattle.universe_model.specs.Tokens.{choice_of, choice_named, token, token_by_kind, install_token, version_named, is_recommends_of};
+ghost use Rattle.universe.specs.Said.{token_said};
+
+use crate::Universe;
+use crate::tokens::{Said, append, append_number, read_token};
+use choice_set::NoMemory;
+use deb_version::{Version, compare};
+use problem::{Kind, Problem};
+use universe_model::TokenFault;
+
+// Whether all three hold.
+fn is_all(a: bool, b: bool, c: bool) -> bool
+    ensures { result ≡ (a && b && c) }
+{
+    a && b && c
+}
+
+impl Universe {
+    // Whether the text of a version is equal to another in the order of versions. What is absent has none.
+    fn is_text_of(&self, number: u32, version: &Version<'_>) -> bool
+        requires { number < length self.now.versions }
+        ensures { result ≡ is_text_of (parts version.now.text.now) (version_numbered self.now number).text }
+    {
+        let _ = &self.versions;
+        match self.version_text(number) {
+            None => false,
+            Some(text) => match Version::read(text) {
+                Ok(own) => compare(&own, version).is_eq(),
+                Err(_) => false,
+            },
+        }
+    }
+
+    /// The version of a package that is equal to another in the order of versions (Debian Policy 5.6.12); `None` exactly where
+    /// none is.
+    pub fn version(&self, package: u32, version: &Version<'_>) -> Option<u32>
+        requires { «package» < length self.now.names }
+        ensures { result ≡ version_in self.now «package» (parts version.now.text.now) }
+    {
+        let _ = self.problem.versions();
+        for number in self.problem.absent_of(package)..self.problem.end_of(package) {
+            if self.is_text_of(number, version) {
+                return Some(number);
+            }
+        }
+        None
+    }
+
+    // The version of a package that a token names.
+    fn version_said(&self, package: u32, said: &Said<'_>) -> Option<u32>
+        requires { «package» < length self.now.names }
+        ensures { result ≡ version_named self.now «package» (token_said said.now) }
+    {
+        let _ = self.problem.versions();
+        match said {
+            Said::Removal(_) => Some(self.problem.absent_of(package)),
+            Said::Release(_, version) | Said::Group(_, version, _) => self.version(
+                package, version,
+            ),
+        }
+    }
+
+    // Whether a dependency is the soft one of a version for a group of its Recommends.
+    fn is_recommends_of(&self, version: u32, place: u32, dep: u32) -> bool
+        requires { dep < length self.now.requirements }
+        ensures { result ≡ is_recommends_of version place (requirement_numbered self.now dep) }
+    {
+        let soft = self.problem.is_soft(dep);
+        let source = self.problem.source(dep);
+        is_all(soft, source == version, self.group_of(dep) == place)
+    }
+
+    // The soft dependency of a version for a group of its Recommends.
+    fn recommends_of(&self, version: u32, place: u32) -> Option<u32>
+        ensures { result ≡ position (is_recommends_of version place) self.now.requirements }
+    {
+        for dep in 0..self.problem.deps() {
+            if self.is_recommends_of(version, place, dep) {
+                return Some(dep);
+            }
+        }
+        None
+    }
+
+    // The choice that a token with this version names.
+    fn choice_said(&self, problem: &Problem, version: u32, said: &Said<'_>) -> Option<u32>
+        requires { IsProblemOf self.now problem.now }
+        ensures { result ≡ choice_named self.now problem.now version (token_said said.now) }
+    {
+        match said {
+            Said::Removal(_) | Said::Release(_, _) => match problem.kind(version) {
+                Kind::Install(version) => Some(version),
+                _ => None,
+            },
+            Said::Group(_, _, place) => {
+                let dep = self.recommends_of(version, *place)?;
+                Some(problem.versions() + dep)
+            }
+        }
+    }
+
+    /// The choice that a token names in a problem with the dependencies of this universe, or the first of the faults in their
+    /// order: the text is no token, no package has its name, the package has no such version, and that is no choice of the
+    /// problem.
+    pub fn choice_of(&self, problem: &Problem, token: &[u8]) -> Result<u32, TokenFault>
+        requires { IsProblemOf self.now problem.now }
+        ensures { result ≡ choice_of self.now problem.now token.now }
+    {
+        let Some(said) = read_token(token) else {
+            return Err(TokenFault::NotAToken);
+        };
+        let Some(package) = self.package(said.name()) else {
+            return Err(TokenFault::NoSuchPackage);
+        };
+        let Some(version) = self.version_said(package, &said) else {
+            return Err(TokenFault::NoSuchVersion);
+        };
+        match self.choice_said(problem, version, &said) {
+            Some(choice) => Ok(choice),
+            None => Err(TokenFault::NotAChoice),
+        }
+    }
+
+    // Appends the token of the choice that installs a version.
+    fn push_install(&self, version: u32, out: &mut Vec<u8>) -> Result<(), NoMemory>
+        requires { version < length self.now.versions }
+        ensures { OnOk result (out.new.items ≡ out.old.items ++ install_token self.now version) }
+    {
+        append(out, self.name(self.problem.package_of(version)))?;
+        match self.version_text(version) {
+            None => append(out, b"-")?,
+            Some(text) => {
+                append(out, b"=")?;
+                append(out, text)?;
+            }
+        }
+        Ok(())
+    }
+
+    /// Appends the token of a choice of a problem with the dependencies of this universe: `name-` for the removal of a package,
+    /// `name=version` for a version as it was first read, and `name=version/K` for leaving the K-th group of its Recommends.
+    /// A number that is no choice has none. After want of memory a part of it may stand there.
+    pub fn token(&self, problem: &Problem, choice: u32, out: &mut Vec<u8>) -> Result<(), NoMemory>
+        requires { IsProblemOf self.now problem.now }
+        ensures { OnOk result (out.new.items ≡ out.old.items ++ token self.now problem.now choice) }
+    {
+        match problem.kind(choice) {
+            Kind::Install(version) => self.push_install(version, out)?,
+            Kind::Leave(dep) => {
+                self.push_install(problem.source(dep), out)?;
+                append(out, b"/")?;
+                append_number(out, self.group_of(dep))?;
+            }
+            Kind::NoChoice => {}
+        }
+        Ok(())
+    }
+}

@@ -1,0 +1,51 @@
+//! Builds the universe of a status file and a packages file, and prints how many packages, versions and dependencies it has,
+//! and how many of these are broken in the installed state.
+#![tactic(auto)]
+
+use choice_set::ChoiceSet;
+use problem::Problem;
+use std::alloc::Global;
+use std::{env, fs, io};
+use universe::{BuildEnd, Universe};
+
+// How many dependencies are broken where the start versions stand.
+fn count_broken(alloc: Global, problem: &Problem) -> u32 {
+    let none = ChoiceSet::empty(alloc);
+    let mut count = 0;
+    for dep in 0..problem.deps() {
+        if problem.is_broken(&none, dep) {
+            count += 1;
+        }
+    }
+    count
+}
+
+fn main(rt: HostRuntime) -> io::Result<()> {
+    let mut words = env::args(&rt)?;
+    let _program = words.next();
+    let (Some(status), Some(packages)) = (words.next(), words.next()) else {
+        return println!(rt; "usage: universe_bench STATUS PACKAGES");
+    };
+    let status = fs::read(&rt, status.as_str())?;
+    let packages = fs::read(&rt, packages.as_str())?;
+    if status.len() > 268_435_456 || packages.len() > 268_435_456 {
+        return println!(rt; "a file is too long");
+    }
+    match Universe::build(rt.alloc(), &status, &packages, b"amd64") {
+        Ok(universe) => {
+            let problem = universe.problem();
+            println!(rt;
+                "{} packages, {} versions, {} dependencies, {} broken",
+                problem.packages(),
+                problem.versions() - problem.packages(),
+                problem.deps(),
+                count_broken(rt.alloc(), problem)
+            )
+        }
+        Err(BuildEnd::BadInput { file, line, kind }) => println!(rt;
+            "{file:?}, line {line}: {kind:?}"
+        ),
+        Err(BuildEnd::Limit { which, count }) => println!(rt; "{which:?}: {count}"),
+        Err(BuildEnd::NoMemory) => println!(rt; "no memory"),
+    }
+}
