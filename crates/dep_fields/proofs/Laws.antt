@@ -134,7 +134,8 @@ fault-none false at (part ∷ next ∷ parts) h one = let few = one refl in absu
 nil-cons : {A : Type 0} (x : A) (xs : List A) → is_nil (x ∷ xs) ≡ false
 nil-cons x xs = grind (arith, nat_tests)
 
-fault-single : (at : ℕ) (parts : List (List ℕ)) → first_fault false at parts ≡ None → length parts ≤ 1
+-- where a group may not have alternatives, one without a fault has one part
+pub fault-single : (at : ℕ) (parts : List (List ℕ)) → first_fault false at parts ≡ None → length parts ≤ 1
 fault-single at [] h = omega arith
 fault-single at (part ∷ []) h = omega arith
 fault-single at (part ∷ next ∷ parts) h = absurd (by (relationship_of part) (is_nil (next ∷ parts)) (nil-cons next parts) h)

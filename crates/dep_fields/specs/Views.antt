@@ -3,6 +3,7 @@ use Rattle.std.specs.Prelude.{◌≡◌, ℕ, List, [], ◌∷◌, drop, Option,
 use Rattle.dep_fields.specs.declared.groups.Group.{Group}
 use Rattle.dep_fields.specs.declared.groups.Groups.{Groups}
 use Rattle.dep_fields.specs.declared.groups.Items.{Items}
+use Rattle.dep_fields.specs.declared.groups.sound.SoundGroups.{SoundGroups}
 use Rattle.dep_fields.specs.declared.RelKind.{RelKind}
 use Rattle.dep_fields.specs.declared.RelFault.{RelFault}
 use Rattle.dep_fields.specs.Relationships.{Relationship}
@@ -38,6 +39,10 @@ left_after (Some kind) place field = only_fault (record { at = place; kind = kin
 -- the groups and the fault that are left to be answered
 abbrev pub field_left : Groups → Field
 field_left groups = left_after groups.fault groups.place (field_in groups.alternatives (spans_in groups.place (pieces comma (rest_of groups))))
+
+-- the groups that are left of a value without a fault
+abbrev pub sound_left : SoundGroups → List (List Relationship)
+sound_left groups = (field_in groups.alternatives (spans_in groups.place (pieces comma (drop groups.place groups.value.now)))).groups
 
 -- A call of `next` with these groups and this fault left gives the first group and leaves the others, gives the
 -- fault where no group is left and leaves it, or gives `None` where nothing is left.

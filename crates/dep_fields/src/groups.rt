@@ -8,8 +8,10 @@ use crate::items::read_item;
 use crate::{Item, RelFault, RelKind};
 
 mod cuts;
+mod sound;
 
 use cuts::{count_items, cut, next_span};
+pub use sound::SoundGroups;
 
 /// The alternatives of a group, one or more. It keeps its text and reads its items from it again.
 #[derive(Clone, Copy, Debug)]
@@ -38,6 +40,7 @@ pub struct Groups<'a> {
 }
 
 // A group's text, where it begins, and where what is behind its comma begins.
+#[derive(Drop)]
 struct Span<'a> {
     at: usize,
     text: &'a [u8],

@@ -13,7 +13,7 @@ mod groups;
 mod items;
 mod tokens;
 
-pub use groups::{Group, Groups, Items};
+pub use groups::{Group, Groups, Items, SoundGroups};
 pub use tokens::is_package_name;
 
 /// How a version has to compare to the version of an item (Debian Policy 7.1).

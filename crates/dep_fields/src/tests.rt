@@ -1,3 +1,6 @@
+ghost use Rattle.std.specs.Prelude.{◌≡◌, IsTrue, None};
+ghost use Rattle.dep_fields.specs.Fields.{field_of};
+
 use super::*;
 use std::process::Abort;
 use std::test::Fail;
@@ -199,4 +202,45 @@ fn package_names(rt: HostRuntime) {
     for (name, is_name) in NAMES {
         assert!(rt; is_package_name(name.as_bytes()) == is_name, "{name}");
     }
+}
+
+// Whether a value has no fault.
+fn is_sound(value: &[u8], alternatives: bool) -> bool
+    ensures { IsTrue result → (field_of alternatives value.now).fault ≡ None }
+{
+    let mut groups = Groups::new(value, alternatives);
+    loop {
+        match groups.next() {
+            Ok(Some(_)) => {}
+            Ok(None) => return true,
+            Err(_) => return false,
+        }
+    }
+}
+
+// A value, whether alternatives are allowed, and how many items its groups have.
+const SOUND: [(&str, bool, &str); 7] = [
+    ("", true, ""),
+    (" , ,", false, ""),
+    ("a", false, "1"),
+    (" a (= 1), b:any,\n c ,", false, "111"),
+    ("a | b", true, "2"),
+    ("a , , b|c:i386 | d ( << 1:2-3 ) ,", true, "13"),
+    ("python3:any (>= 3.9~),\n libc6, x | y", true, "112"),
+];
+
+#[test]
+fn groups_of_sound_values(rt: HostRuntime) -> Result<(), Fail> {
+    for (value, alternatives, lens) in SOUND {
+        if !is_sound(value.as_bytes(), alternatives) {
+            return Err(Fail::new("a fault"));
+        }
+        let mut found = String::new(rt.alloc());
+        for group in SoundGroups::new(value.as_bytes(), alternatives) {
+            write!(found, "{}", group.len())?;
+            assert_eq!(rt; group.items().count(), group.len());
+        }
+        assert_eq!(rt; found.as_str(), lens);
+    }
+    Ok(())
 }

@@ -1,6 +1,6 @@
 // The versions that carriers find.
 
-ghost use Rattle.std.specs.Prelude.{◌≡◌, ◌≤◌, ◌++◌, ◌<◌, ◌^◌, length, map, Some, OnOk};
+ghost use Rattle.std.specs.Prelude.{◌≡◌, ◌++◌, Some, OnOk};
 ghost use Rattle.std.specs.List.{flat_map, slice_get};
 ghost use Rattle.std.specs.Option.{option_map, option_to_list};
 ghost use Rattle.dep_fields.specs.Relationships.{bound_of};
@@ -60,6 +60,7 @@ fn found(
     }
 }
 
+// The version, if it is within a bound.
 fn own_found(
     bound: Option<(Op, Version<'_>)>,
     number: u32,
@@ -74,6 +75,7 @@ fn own_found(
     }
 }
 
+// The version that provides an item, if the item is within a bound.
 fn provided_found(bound: Option<(Op, Version<'_>)>, provided: &Provided<'_>) -> Option<u32>
     ensures { option_to_list result ≡ met_under (option_map bound_of bound.entry) (Some (carrier_of provided.now)) }
 {

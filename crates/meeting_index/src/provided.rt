@@ -1,10 +1,11 @@
 // The items of Provides of all versions.
 
-ghost use Rattle.std.specs.Prelude.{◌≡◌, ◌≤◌, ◌++◌, ◌∷◌, [], ◌<◌, ◌^◌, length, map, if◌then◌else◌, IfOk, OnOk};
+ghost use Rattle.std.specs.Prelude.{◌≡◌, ◌≤◌, ◌++◌, ◌∷◌, [], true, false, ◌<◌, ◌^◌, length, map, if◌then◌else◌, IfOk, OnOk};
 ghost use Rattle.std.specs.List.{flat_map};
 ghost use Rattle.dep_fields.specs.Relationships.{meaning};
 ghost use Rattle.dep_fields.specs.Views.{group_items};
 ghost use Rattle.problem.specs.Limits.{most_versions};
+ghost use Rattle.stanza.specs.Fields.{is_relation};
 ghost use Rattle.universe_model.specs.Versions.{single_groups_of};
 ghost use Rattle.universe_parts.specs.Listed.{version_listed};
 ghost use Rattle.meeting_index.specs.Carriers.{all_provided, has_plain_arch, provided, provided_by, provided_in};
@@ -12,7 +13,7 @@ ghost use Rattle.meeting_index.specs.Provided.{carrier_of};
 
 use choice_set::NoMemory;
 use deb_version::Version;
-use dep_fields::{Group, Groups, Item, Op};
+use dep_fields::{Group, Item, Op, SoundGroups};
 use std::alloc::Global;
 use universe_parts::{ListedVersion, is_plain};
 
@@ -42,6 +43,7 @@ pub fn list_provided<'a>(
     Ok(list)
 }
 
+// Adds what a version provides; what is absent provides nothing.
 fn add_version<'a>(
     list: &mut Vec<Provided<'a>>,
     native: &[u8],
@@ -63,10 +65,10 @@ fn add_groups<'a>(
     number: u32,
     provides: &'a [u8],
 ) -> Result<(), NoMemory>
+    requires { is_relation false provides.now ≡ true }
     ensures { OnOk result (map carrier_of list.new.items ≡ map carrier_of list.old.items ++ flat_map (provided_in native.now number) (single_groups_of provides.now)) }
 {
-    let mut groups = Groups::new(provides, false);
-    while let Ok(Some(group)) = groups.next() {
+    for group in SoundGroups::new(provides, false) {
         add_group(list, native, number, &group)?;
     }
     Ok(())
@@ -86,6 +88,7 @@ fn add_group<'a>(
     Ok(())
 }
 
+// Adds an item, unless it has another architecture.
 fn add_item<'a>(
     list: &mut Vec<Provided<'a>>,
     native: &[u8],

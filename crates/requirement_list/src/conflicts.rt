@@ -20,9 +20,8 @@ ghost use Rattle.requirement_list.specs.Collecting.{Adds};
 
 use crate::Room;
 use crate::collected::{Collected, Field};
-use crate::groups::next_group;
 use choice_set::NoMemory;
-use dep_fields::{Group, Groups, Item};
+use dep_fields::{Group, Item, SoundGroups};
 use meeting_index::MeetingIndex;
 use problem::Problem;
 use universe_model::BuildEnd;
@@ -203,8 +202,7 @@ pub fn add_conflicts(
     requires read { is_relation false value.now ≡ true }
     ensures { Adds (of_conflicts (setting_of index.now collected.old) source own (single_groups_of value.now)) collected.old result collected.new }
 {
-    let mut groups = Groups::new(value, false);
-    while let Some(group) = next_group(&mut groups) {
+    for group in SoundGroups::new(value, false) {
         add_items(index, collected, source, own, &group, room)?;
     }
     Ok(())

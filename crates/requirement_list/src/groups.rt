@@ -1,10 +1,10 @@
 //! The dependencies of the groups of a field: of Pre-Depends and Depends, and of Recommends (Debian Policy 7.2).
 
-ghost use Rattle.std.specs.Prelude.{◌≡◌, ◌<◌, ◌≤◌, ◌∷◌, [], map, length, true, not, ◌&&◌, None, IsTrue, nat_lt, MatchOption, MatchResult};
+ghost use Rattle.std.specs.Prelude.{◌≡◌, ◌<◌, ◌≤◌, ◌∷◌, [], map, length, true, not, ◌&&◌, IsTrue, nat_lt, MatchResult};
 ghost use Rattle.std.specs.List.{filter, list_all, list_any};
 ghost use Rattle.choice_set.specs.Sets.{has};
 ghost use Rattle.resolver_model.specs.Problems.{version_count};
-ghost use Rattle.dep_fields.specs.Views.{field_left, group_items};
+ghost use Rattle.dep_fields.specs.Views.{group_items};
 ghost use Rattle.stanza.specs.Fields.{is_relation};
 ghost use Rattle.universe_model.specs.Versions.{groups_of};
 ghost use Rattle.universe_model.specs.Dependencies.{of_group, recommended, is_broken_now, of_recommends};
@@ -14,22 +14,10 @@ ghost use Rattle.universe_model.specs.declared.BuildEnd.TheVariants.{NoMemory};
 ghost use Rattle.requirement_list.specs.Collecting.{Adds};
 
 use crate::collected::{Collected, Field};
-use dep_fields::{Group, Groups};
+use dep_fields::{Group, SoundGroups};
 use meeting_index::MeetingIndex;
 use problem::Problem;
 use universe_model::BuildEnd;
-
-/// The next group of a field without fault.
-pub fn next_group<'a>(groups: &mut Groups<'a>) -> Option<Group<'a>>
-    requires { (field_left groups.old).fault ≡ None }
-    ensures fault { (field_left groups.new).fault ≡ None }
-    ensures group { MatchOption result ((field_left groups.old).groups ≡ []) (λ group. (field_left groups.old).groups ≡ group_items group ∷ (field_left groups.new).groups) }
-{
-    match groups.next() {
-        Ok(group) => group,
-        Err(_) => None,
-    }
-}
 
 // Lists the targets of a group.
 fn list_targets(
@@ -75,8 +63,7 @@ pub fn add_groups(
     requires read { is_relation true value.now ≡ true }
     ensures { Adds (map (of_group (setting_of index.now collected.old) source) (groups_of value.now)) collected.old result collected.new }
 {
-    let mut groups = Groups::new(value, true);
-    while let Some(group) = next_group(&mut groups) {
+    for group in SoundGroups::new(value, true) {
         add_group(index, collected, source, &group, targets)?;
     }
     Ok(())
@@ -150,9 +137,8 @@ pub fn add_recommends(
     requires few { length (groups_of value.now) ≤ most_groups }
     ensures { Adds (of_recommends (setting_of index.now collected.old) source (groups_of value.now)) collected.old result collected.new }
 {
-    let mut groups = Groups::new(value, true);
     let mut place = 0;
-    while let Some(group) = next_group(&mut groups) {
+    for group in SoundGroups::new(value, true) {
         place += 1;
         add_recommended(index, collected, source, place, &group, targets)?;
     }

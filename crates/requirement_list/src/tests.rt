@@ -9,9 +9,8 @@ ghost use Rattle.universe_parts.specs.Listed.{version_listed};
 ghost use Rattle.requirement_list.specs.Settings.{owners_of};
 
 use super::*;
-use crate::groups::next_group;
 use control_file::Paragraphs;
-use dep_fields::Groups;
+use dep_fields::SoundGroups;
 use stanza::Stanza;
 use std::test::Fail;
 use universe_parts::ReadStanza;
@@ -113,15 +112,7 @@ fn has_few_groups(value: &[u8]) -> bool
     requires { is_relation true value.now ≡ true }
     ensures { IsTrue result → length (groups_of value.now) ≤ most_groups }
 {
-    let mut groups = Groups::new(value, true);
-    let mut count = 0u32;
-    while let Some(_group) = next_group(&mut groups) {
-        if count >= 1000 {
-            return false;
-        }
-        count += 1;
-    }
-    true
+    SoundGroups::new(value, true).nth(1000).is_none()
 }
 
 // Whether each version recommends at most a thousand groups.

@@ -5,3 +5,4 @@ mod Walks
 mod Built
 mod Making
 mod Whole
+mod FirstBytes

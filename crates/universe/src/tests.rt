@@ -1,6 +1,7 @@
 //! Tests: universes of small files, and the tokens of their choices.
 
 use super::*;
+use crate::tokens::{append, append_number};
 use deb_version::Version;
 use problem::Which;
 use stanza::StanzaKind;
@@ -154,7 +155,7 @@ Description: a new library
 ";
 
 // Files, how many packages and how many versions with absent ones they have, and their dependencies.
-const FILES: [(&str, &str, u32, u32, &[Row]); 9] = [
+const FILES: [(&str, &str, u32, u32, &[Row]); 10] = [
     (
         B_STATUS,
         B_PACKAGES,
@@ -254,14 +255,24 @@ Provides: v (= 3), v (= 1)
 Package: q
 Version: 1
 Depends: v (<< 2)
+",
+        2,
+        4,
+        &[(3, &[1], false)],
+    ),
+    (
+        "",
+        "Package: p
+Version: 1
+Provides: v (= 3)
 
-Package: r
+Package: q
 Version: 1
 Depends: v (>= 2)
 ",
-        3,
-        6,
-        &[(3, &[1], false), (5, &[1], false)],
+        2,
+        4,
+        &[(3, &[1], false)],
     ),
     // and what is provided without one meets none
     (
@@ -395,6 +406,86 @@ fn choices_of_tokens(rt: HostRuntime) -> Result<(), Fail> {
         let mut out = Vec::new(rt.alloc());
         universe.token(universe.problem(), choice, &mut out)?;
         assert_eq!(rt; out.as_slice(), token.as_bytes());
+    }
+    Ok(())
+}
+
+// Texts with a fault: its file, its line and its kind.
+const FAULTY: [(&str, &str, FileKind, u64, StanzaKind); 4] = [
+    (
+        "Package: a\nStatus: install ok installed\n",
+        "Package: b\n",
+        FileKind::Status,
+        1,
+        StanzaKind::NoVersion,
+    ),
+    (
+        "Package: a\nStatus: install ok\n",
+        "",
+        FileKind::Status,
+        2,
+        StanzaKind::BadStatus,
+    ),
+    (
+        B_STATUS,
+        "Package: a\nVersion: 1\n\nPackage: a\nVersion: 1\nDepends: a (\n",
+        FileKind::Packages,
+        6,
+        StanzaKind::BadRelation,
+    ),
+    // a stanza of another architecture is checked too
+    (
+        "",
+        "Package: a\nArchitecture: i386\nVersion: -\n",
+        FileKind::Packages,
+        3,
+        StanzaKind::BadVersion,
+    ),
+];
+
+#[test]
+fn faults_of_files(rt: HostRuntime) -> Result<(), Fail> {
+    for (status, packages, file, line, kind) in FAULTY {
+        if status.len() > 100_000 || packages.len() > 100_000 {
+            return Err(Fail::new("too long"));
+        }
+        let end = BuildEnd::BadInput {
+            file,
+            line,
+            kind: InputKind::Stanza(kind),
+        };
+        match Universe::build(rt.alloc(), status.as_bytes(), packages.as_bytes(), b"amd64") {
+            Err(found) => assert!(rt; found == end, "{packages}"),
+            Ok(_) => return Err(Fail::new("no fault")),
+        }
+    }
+    Ok(())
+}
+
+// A packages file of so many packages.
+fn packages_file(alloc: Global, count: u32) -> Result<Vec<u8>, NoMemory> {
+    let mut text = Vec::new(alloc);
+    for number in 0..count {
+        append(&mut text, b"Package: p")?;
+        append_number(&mut text, number)?;
+        append(&mut text, b"\nVersion: 1\n\n")?;
+    }
+    Ok(text)
+}
+
+#[test]
+fn too_many_packages(rt: HostRuntime) -> Result<(), Fail> {
+    let text = packages_file(rt.alloc(), 200_001)?;
+    if text.len() > 100_000_000 {
+        return Err(Fail::new("too long"));
+    }
+    let end = BuildEnd::Limit {
+        which: Which::Packages,
+        count: 200_001,
+    };
+    match Universe::build(rt.alloc(), b"", text.as_slice(), b"amd64") {
+        Err(found) => assert!(rt; found == end),
+        Ok(_) => return Err(Fail::new("no limit")),
     }
     Ok(())
 }

@@ -8,6 +8,7 @@ ghost use Rattle.std.specs.Str.Parse.{digits_value};
 ghost use Rattle.universe_model.specs.Tokens.{is_place, removal_token, release_token, group_token, version_token_of, token_of, name_in};
 ghost use Rattle.universe.specs.Said.{token_said};
 
+use bstr::ByteSlice;
 use choice_set::NoMemory;
 use deb_version::Version;
 use dep_fields::is_package_name;
@@ -33,17 +34,11 @@ impl<'a> Said<'a> {
     }
 }
 
-fn place_of(text: &[u8], mark: u8) -> Option<usize>
-    ensures { result ≡ position (λ byte. byte == mark) text.now }
-{
-    text.iter().position(|byte| *byte == mark)
-}
-
 // What stands before and behind the first mark, if there is one.
 fn cut(text: &[u8], mark: u8) -> Option<(&[u8], &[u8])>
     ensures { MatchOption result (list_any (λ byte. byte == mark) text.now ≡ false) (λ parts. (list_any (λ byte. byte == mark) text.now ≡ true) × (parts.0.now ≡ before_first (λ byte. byte == mark) text.now) × (parts.1.now ≡ after_first (λ byte. byte == mark) text.now)) }
 {
-    match place_of(text, mark) {
+    match text.find_byte(mark) {
         Some(place) => Some((&text[..place], &text[place + 1..])),
         None => None,
     }

@@ -65,6 +65,19 @@ pub fn count_items(text: &[u8], start: usize, alternatives: bool) -> Result<usiz
     Ok(count)
 }
 
+// How many parts a group's text has.
+pub fn count_parts(text: &[u8]) -> usize
+    ensures { result ≡ length (pieces bar text.now) }
+{
+    let mut bars = 0;
+    for byte in text {
+        if *byte == b'|' {
+            bars += 1;
+        }
+    }
+    bars + 1
+}
+
 // Whether a text between two commas has no group.
 fn is_empty_group(text: &[u8]) -> bool
     ensures { result ≡ is_empty_group text.now }

@@ -1,7 +1,7 @@
 use Rattle.std.specs.List.{flat_map}
 use Rattle.std.proofs.lemmas.List.Concat.{flat_map-append}
 use Rattle.std.proofs.lemmas.Result.{err_from_is_err_and}
-use Rattle.dep_fields.specs.Views.{field_left, group_items}
+use Rattle.dep_fields.specs.Views.{sound_left, group_items}
 use Rattle.universe_model.specs.Versions.{single_groups_of, concat}
 use Rattle.universe_model.specs.Dependencies.{Setting, of_conflict, of_conflicts}
 use Rattle.requirement_list.specs.Settings.{setting_of}
@@ -14,14 +14,11 @@ loop-group-preserved c =
     let own = c.args.own in
     let source = c.args.source in
     let s = setting_of c.args.index.now a in
-    let left = (field_left c.next_group.new.groups).groups in
-    let come = rw c.in-Some.ensures.group at c.loop-group.invariant.come in
+    let left = sound_left c.next.new.self in
+    let come = rw c.in-Some.ensures.steps at c.loop-group.invariant in
     let split = rw (flat_map-append (of_conflict s source own) (group_items c.in-Some.group) (concat left)) at come in
-    record {
-      sound = c.in-Some.ensures.fault;
-      come = come_step c.args.index.now a c.loop-group.collected c.add_items.new.collected (of_conflicts s source own (single_groups_of c.args.value.now)) (of_conflicts s source own left)
-          (λ (t : Setting). flat_map (of_conflict t source own) (group_items c.in-Some.group)) split c.in_ok-add_items.ensures;
-    }
+    come_step c.args.index.now a c.loop-group.collected c.add_items.new.collected (of_conflicts s source own (single_groups_of c.args.value.now)) (of_conflicts s source own left)
+    (λ (t : Setting). flat_map (of_conflict t source own) (group_items c.in-Some.group)) split c.in_ok-add_items.ensures
 
 pub returns-in_err-add_items : goal.returns-in_err-add_items
 returns-in_err-add_items c =
@@ -29,8 +26,8 @@ returns-in_err-add_items c =
     let own = c.args.own in
     let source = c.args.source in
     let s = setting_of c.args.index.now a in
-    let left = (field_left c.next_group.new.groups).groups in
-    let come = rw c.in-Some.ensures.group at c.loop-group.invariant.come in
+    let left = sound_left c.next.new.self in
+    let come = rw c.in-Some.ensures.steps at c.loop-group.invariant in
     let split = rw (flat_map-append (of_conflict s source own) (group_items c.in-Some.group) (concat left)) at come in
     let e = err_from_is_err_and c.from_residual.result c.from_residual.ensures.1 in
     rw (e.1, e.2) (ended_step c.args.index.now a c.loop-group.collected (of_conflicts s source own (single_groups_of c.args.value.now)) (of_conflicts s source own left)

@@ -1,5 +1,4 @@
-use Rattle.std.proofs.Common.{◌≡◌, length, None}
-use Rattle.dep_fields.specs.Views.{field_left}
+use Rattle.dep_fields.specs.Views.{sound_left}
 use Rattle.universe_model.specs.Versions.{single_groups_of}
 use Rattle.universe_model.specs.Dependencies.{of_conflicts}
 use Rattle.requirement_list.specs.Settings.{setting_of}
@@ -9,10 +8,4 @@ use Rattle.requirement_list.proofs.conflicts.add_conflicts.Given as goal
 abbrev pub invariant-loop-group : goal.invariant-loop-group
 invariant-loop-group l =
     let f = of_conflicts (setting_of l.index l.fn.collected) l.source l.own in
-    record {
-      sound : (field_left l.groups).fault ≡ None;
-      come : HasCome (f (single_groups_of l.value)) (f (field_left l.groups).groups) l.initial.collected l.collected;
-    }
-
-abbrev pub decreases-loop-group : goal.decreases-loop-group
-decreases-loop-group l = length (field_left l.groups).groups
+    HasCome (f (single_groups_of l.value)) (f (sound_left l.group-iterator)) l.initial.collected l.collected

@@ -1,5 +1,5 @@
-use Rattle.std.proofs.Common.{◌≡◌, map, length, None}
-use Rattle.dep_fields.specs.Views.{field_left}
+use Rattle.std.proofs.Common.{map}
+use Rattle.dep_fields.specs.Views.{sound_left}
 use Rattle.universe_model.specs.Versions.{groups_of}
 use Rattle.universe_model.specs.Dependencies.{of_group}
 use Rattle.requirement_list.specs.Settings.{setting_of}
@@ -9,10 +9,4 @@ use Rattle.requirement_list.proofs.groups.add_groups.Given as goal
 abbrev pub invariant-loop-group : goal.invariant-loop-group
 invariant-loop-group l =
     let f = of_group (setting_of l.index l.fn.collected) l.source in
-    record {
-      sound : (field_left l.groups).fault ≡ None;
-      come : HasCome (map f (groups_of l.value)) (map f (field_left l.groups).groups) l.initial.collected l.collected;
-    }
-
-abbrev pub decreases-loop-group : goal.decreases-loop-group
-decreases-loop-group l = length (field_left l.groups).groups
+    HasCome (map f (groups_of l.value)) (map f (sound_left l.group-iterator)) l.initial.collected l.collected

@@ -1,7 +1,7 @@
 use Rattle.std.proofs.Common.{[], ◌∷◌, ◌+◌, not}
 use Rattle.std.specs.List.{filter}
 use Rattle.std.proofs.lemmas.Result.{err_from_is_err_and}
-use Rattle.dep_fields.specs.Views.{field_left, group_items}
+use Rattle.dep_fields.specs.Views.{sound_left, group_items}
 use Rattle.universe_model.specs.Lists.{map_from}
 use Rattle.universe_model.specs.Versions.{groups_of}
 use Rattle.universe_model.specs.Dependencies.{Requirement, Setting, recommended, of_recommends, is_broken_now}
@@ -15,8 +15,8 @@ returns-in_err-add_recommended c =
     let f = recommended s c.args.source in
     let counts = λ (r : Requirement). not (is_broken_now s r) in
     let first = f (c.loop-group.place + 1) (group_items c.in-Some.group) in
-    let left = map_from f (c.loop-group.place + 1 + 1) (field_left c.next_group.new.groups).groups in
-    let come = rw c.in-Some.ensures.group at c.loop-group.invariant.come in
+    let left = map_from f (c.loop-group.place + 1 + 1) (sound_left c.next.new.self) in
+    let come = rw c.in-Some.ensures.steps at c.loop-group.invariant.come in
     let split = rw (filter-front counts first left) at come in
     let counted = λ (t : Setting). filter (λ r. not (is_broken_now t r)) (recommended t c.args.source (c.loop-group.place + 1) (group_items c.in-Some.group) ∷ []) in
     let ended = ended_same c.args.index.now c.args.collected.now c.loop-group.collected counted _ c.loop-group.invariant.come.starts c.in_err-add_recommended.ensures in

@@ -1,6 +1,6 @@
-use Rattle.std.proofs.Common.{◌≡◌, ◌+◌, length, None, not}
+use Rattle.std.proofs.Common.{◌≡◌, ◌+◌, length, not}
 use Rattle.std.specs.List.{filter}
-use Rattle.dep_fields.specs.Views.{field_left}
+use Rattle.dep_fields.specs.Views.{sound_left}
 use Rattle.universe_model.specs.Lists.{map_from}
 use Rattle.universe_model.specs.Versions.{groups_of}
 use Rattle.universe_model.specs.Dependencies.{recommended, of_recommends, is_broken_now}
@@ -11,12 +11,8 @@ use Rattle.requirement_list.proofs.groups.add_recommends.Given as goal
 abbrev pub invariant-loop-group : goal.invariant-loop-group
 invariant-loop-group l =
     let s = setting_of l.index l.fn.collected in
-    let left = (field_left l.groups).groups in
+    let left = sound_left l.group-iterator in
     record {
-      sound : (field_left l.groups).fault ≡ None;
       places : l.place + length left ≡ length (groups_of l.value);
       come : HasCome (of_recommends s l.source (groups_of l.value)) (filter (λ r. not (is_broken_now s r)) (map_from (recommended s l.source) (l.place + 1) left)) l.initial.collected l.collected;
     }
-
-abbrev pub decreases-loop-group : goal.decreases-loop-group
-decreases-loop-group l = length (field_left l.groups).groups

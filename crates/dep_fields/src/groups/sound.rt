@@ -1,0 +1,64 @@
+// The groups of a field that is known to have no fault.
+
+ghost use Rattle.std.specs.Prelude.{◌≡◌, ◌≤◌, None, length, drop};
+ghost use Rattle.dep_fields.specs.Fields.{field_in, spans_in, pieces, comma};
+
+use super::cuts::{count_parts, next_span};
+use super::{Group, Span};
+
+/// The groups of a relationship field without a fault, in order. Finding a group reads none of its
+/// items: each is read only by `Group::items`.
+#[derive(Clone, Copy, Debug)]
+pub struct SoundGroups<'a> {
+    value: &'a [u8],
+    place: usize,
+    alternatives: bool,
+    ghost within: { place ≤ length value.now },
+    ghost sound: { (field_in alternatives (spans_in place (pieces comma (drop place value.now)))).fault ≡ None },
+}
+
+impl<'a> SoundGroups<'a> {
+    ghost use Rattle.dep_fields.specs.Fields.{field_of, first_fault, items_of, bar};
+    ghost use Rattle.dep_fields.specs.Views.{sound_left, group_items};
+
+    /// A reader of a field's value (Debian Policy 7.1) in which `Groups` finds no fault.
+    /// `alternatives` says whether a group may have several items, separated by `|`.
+    #[tactic(auto, unfolding(crate::specs::Fields::field_of))]
+    pub fn new(value: &'a [u8], alternatives: bool) -> SoundGroups<'a>
+        requires { (field_of alternatives value.now).fault ≡ None }
+        ensures { sound_left result ≡ (field_of alternatives value.now).groups }
+    {
+        SoundGroups {
+            value,
+            place: 0,
+            alternatives,
+        }
+    }
+
+    // The group of a text without a fault.
+    fn group(span: Span<'a>, alternatives: bool) -> Group<'a>
+        requires { first_fault alternatives span.at (pieces bar span.text.now) ≡ None }
+        ensures { group_items result ≡ items_of span.entry.text.now }
+    {
+        let text = span.text;
+        let len = if alternatives { count_parts(text) } else { 1 };
+        Group { text, len }
+    }
+}
+
+impl<'a> Iterator for SoundGroups<'a> {
+    ghost use Rattle.std.specs.Iterator.{YieldsFirstBy, item_count};
+    ghost use Rattle.dep_fields.specs.Views.{sound_left, group_items};
+
+    type Item = Group<'a>;
+
+    ghost next_gives = { YieldsFirstBy group_items sound_left };
+
+    ghost remaining = { item_count sound_left };
+
+    fn next(&mut self) -> Option<Group<'a>> {
+        let span = next_span(self.value, self.place)?;
+        self.place = span.end;
+        Some(SoundGroups::group(span, self.alternatives))
+    }
+}
