@@ -1,0 +1,4 @@
+mod Owners
+mod Firsts
+mod Started
+mod Marked
