@@ -11,7 +11,7 @@ use Rattle.universe_model.specs.Dependencies.{Requirement, requirements}
 use Rattle.universe_model.specs.Lists.{map_from}
 use Rattle.universe_model.specs.Reading.{Stanzas}
 use Rattle.universe_model.specs.Versions.{Version, names, versions, installed_of}
-use Rattle.universe_model.specs.Universes.{Universe, dependency_in, known, owner_of, installed_in, universe_of, problem_of}
+use Rattle.universe_model.specs.Universes.{dependency_in, known, owner_of, installed_in, universe_of, problem_of}
 use Rattle.version_list.specs.Listings.{listing_refusal, package_number_of}
 use Rattle.requirement_list.specs.RequirementLists.{requirement_refusal}
 use Rattle.universe_model.specs.Limits.{limit_past}

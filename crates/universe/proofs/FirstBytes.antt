@@ -1,5 +1,5 @@
 -- The first place of a byte, by whether there is one.
-use Rattle.std.proofs.Common.{◌≡◌, ◌<◌, ◌≤◌, ℕ, Bool, true, false, ◌==◌, List, length, Option, Some, None, arith, refl, sym, get_or}
+use Rattle.std.proofs.Common.{◌≡◌, ℕ, ◌==◌, List, Option, Some, None, arith, sym, get_or}
 use Rattle.std.proofs.lemmas.Bool.{false_from_ne_true}
 use Rattle.std.specs.List.{position}
 use Rattle.bstr.specs.Find.{IsFirstByte, is_byte}

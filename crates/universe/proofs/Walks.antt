@@ -27,7 +27,7 @@ module _ (u : Universe) (p : Problem) (owners : p.owners ≡ map owner_of u.vers
   package-same : (k : ℕ) → package_of p k ≡ (version_numbered u k).package_number
   package-same k = ap (λ xs. get_or xs k 0) owners ∙ at-map owner_of u.versions k nothing_known
 
-  count-same : version_count p ≡ length u.versions
+  pub count-same : version_count p ≡ length u.versions
   count-same = ap length owners ∙ length-map u.versions owner_of
 
   -- where the package's versions begin, in both
@@ -52,6 +52,10 @@ module _ (u : Universe) (p : Problem) (owners : p.owners ≡ map owner_of u.vers
           let place = place_from p formed q k within (package-same k ∙ eqb-true (version_numbered u k).package_number q e) in
           differs place.0 place.1
       by false e = refl
+
+  -- a version from absent to before the end is one of the package
+  pub version-own : (q n : ℕ) → n < version_count p → absent_of p q ≤ n → n < end_of p q → (version_numbered u n).package_number ≡ q
+  version-own q n within low high = sym (package-same n) ∙ package_from p formed q n within low high
 
   pub version-found : (q n : ℕ) (ps : Parts) → n < version_count p → absent_of p q ≤ n → n < end_of p q
       → ((k : ℕ) → absent_of p q ≤ k → k < n → is_text_of ps (version_numbered u k).text ≡ false)

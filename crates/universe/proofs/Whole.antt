@@ -1,5 +1,5 @@
 -- The universe of two texts is that of their stanzas, where the texts have no fault.
-use Rattle.std.proofs.Common.{◌≡◌, ◌⊎◌, inl, inr, ℕ, List, Option, Some, None, option_map, sym, ap, ◌∙◌, subst, IsTrue}
+use Rattle.std.proofs.Common.{◌≡◌, ◌⊎◌, inl, inr, List, Some, None, option_map, sym, ap, ◌∙◌, subst, IsTrue}
 use Rattle.std.specs.Option.{option_or}
 use Rattle.std.specs.List.{list_all}
 use Rattle.control_file.specs.Text.{reading}
@@ -11,7 +11,7 @@ use Rattle.universe_model.specs.Universes.{Universe, universe, universe_of, prob
 use Rattle.universe_model.specs.Versions.{versions}
 use Rattle.universe_model.specs.declared.BuildEnd.{BuildEnd}
 use Rattle.universe_model.specs.declared.FileKind.TheVariants.{Status, Packages}
-use Rattle.universe.specs.Building.{IsOfStanzas, IsEndOf}
+use Rattle.universe.specs.Building.{IsOfStanzas}
 
 pub stanzas-same : (texts : Texts) (s p : List ReadStanza) → s ≡ (stanzas_of texts).status → p ≡ (stanzas_of texts).packages → record { status = s; packages = p } ≡ stanzas_of texts
 stanzas-same texts s p first second =

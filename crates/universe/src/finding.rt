@@ -1,6 +1,6 @@
 //! What is found in a universe: versions, and the choices that tokens name.
 
-ghost use Rattle.std.specs.Prelude.{◌≡◌, ◌<◌, ◌++◌, ◌∷◌, [], ℕ, Ok, Err, None, Some, OnOk, length, option_map, cond, ◌&&◌};
+ghost use Rattle.std.specs.Prelude.{◌≡◌, ◌<◌, ◌++◌, ◌∷◌, [], ℕ, Ok, Err, None, Some, IfSome, OnOk, length, option_map, cond, ◌&&◌};
 ghost use Rattle.std.specs.List.{position};
 ghost use Rattle.deb_version.specs.Versions.{parts};
 ghost use Rattle.resolver_model.specs.Problems.{is_install, leave_of};
@@ -42,7 +42,9 @@ impl Universe {
     /// none is.
     pub fn version(&self, package: u32, version: &Version<'_>) -> Option<u32>
         requires { «package» < length self.now.names }
-        ensures { result ≡ version_in self.now «package» (parts version.now.text.now) }
+        ensures version { result ≡ version_in self.now «package» (parts version.now.text.now) }
+        ensures range { IfSome result (λ v. v < length self.now.versions) }
+        ensures own { IfSome result (λ v. (version_numbered self.now v).package_number ≡ «package») }
     {
         let _ = self.problem.versions();
         for number in self.problem.absent_of(package)..self.problem.end_of(package) {

@@ -2,7 +2,7 @@
 //! that name them (Debian Policy, chapters 5 and 7).
 #![tactic(auto)]
 
-ghost use Rattle.std.specs.Prelude.{◌≡◌, ◌<◌, ◌++◌, ℕ, None, Some, OnOk, length, slice_index, slice_get};
+ghost use Rattle.std.specs.Prelude.{◌≡◌, ◌<◌, ◌++◌, ℕ, None, Some, IfSome, OnOk, length, slice_index, slice_get};
 ghost use Rattle.std.specs.Option.{option_copied};
 ghost use Rattle.resolver_model.specs.Problems.{Problem, package_count, version_count, dependency_count};
 ghost use Rattle.universe_model.specs.Universes.{problem_of, package_named, name_of_package, version_numbered, group_of, is_conflict};
@@ -51,14 +51,16 @@ impl Model for Universe {
 impl Universe {
     /// The problem of the packages, versions and dependencies, whose start versions are the installed ones.
     pub fn problem(&self) -> &Problem
-        ensures { result.now ≡ problem_of self.now }
+        ensures problem { result.now ≡ problem_of self.now }
+        ensures packages { package_count (problem_of self.now) ≡ length self.now.names }
     {
         &self.problem
     }
 
     /// The package of a name (Debian Policy 5.6.1); `None` exactly where no package has it.
     pub fn package(&self, name: &[u8]) -> Option<u32>
-        ensures { result ≡ package_named self.now name.now }
+        ensures package { result ≡ package_named self.now name.now }
+        ensures range { IfSome result (λ q. q < length self.now.names) }
     {
         let _ = self.problem.versions();
         match self.names.number_of(name) {

@@ -21,8 +21,7 @@ fn problem_of(universe: &Universe, package: u32) -> &Problem
     ensures range { «package» < package_count (problem_of universe.now) }
 {
     let problem = universe.problem();
-    // they tell that the package has a version, and that the problem has the package of each version
-    let _candidate = universe.candidate(package);
+    // it tells that the problem has the package of each version
     let _versions = problem.versions();
     problem
 }

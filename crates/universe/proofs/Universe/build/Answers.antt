@@ -1,6 +1,6 @@
-use Rattle.std.proofs.Common.{◌≡◌, ◌∙◌, sym, ap, map}
+use Rattle.std.proofs.Common.{◌∙◌, ap, map}
 use Rattle.std.proofs.lemmas.Result.{MatchResult-weaker}
-use Rattle.universe_model.specs.Reading.{Texts, Stanzas, stanzas_of}
+use Rattle.universe_model.specs.Reading.{Texts}
 use Rattle.universe_model.specs.declared.BuildEnd.TheVariants as build_end
 use Rattle.universe_parts.specs.Listed.{stanza_read}
 use Rattle.version_list.specs.Listings.{stanzas_read}

@@ -1,7 +1,6 @@
-use Rattle.std.proofs.Common.{◌≡◌, ◌∙◌, sym, ap, map, length}
+use Rattle.std.proofs.Common.{◌∙◌, sym, ap, map, length}
 use Rattle.std.proofs.lemmas.List.{length-map}
 use Rattle.std.proofs.lemmas.Result.{err_from_is_err_and}
-use Rattle.universe_model.specs.Universes.{Universe}
 use Rattle.universe_model.specs.Versions as model
 use Rattle.universe_model.specs.declared.BuildEnd.TheVariants as build_end
 use Rattle.universe_parts.specs.Listed.{version_listed}

@@ -4,8 +4,8 @@ use Rattle.universe.specs.Views.{known_version}
 use Rattle.universe.proofs.Zips.{requirements_of-dependencies}
 use Rattle.universe.proofs.Universe.problem.Goals as goal
 
-pub returns : goal.returns
-returns c =
+pub returns-clause-problem : goal.returns-clause-problem
+returns-clause-problem c =
     let p = c.self.inside.problem in
     ap (λ owners. record { owners = owners; starts = p.starts; dependencies = p.dependencies }) c.self.invariant.owners
     ∙ ap (λ ds. record { owners = map owner_of (map known_version c.self.inside.versions.items); starts = p.starts; dependencies = ds })

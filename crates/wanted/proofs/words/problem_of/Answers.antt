@@ -1,10 +1,5 @@
-use Rattle.std.proofs.Common.{subst}
-use Rattle.resolver_model.specs.Problems.{IsWellFormed}
-use Rattle.wanted.proofs.Owners.{package-within}
+use Rattle.std.proofs.Common.{arith}
 use Rattle.wanted.proofs.words.problem_of.Goals as goal
 
 pub returns-clause-range : goal.returns-clause-range
-returns-clause-range c =
-    let candidate = c.candidate-candidate in
-    package-within c.args.universe.now (subst IsWellFormed c.problem-problem.ensures c.versions-versions.ensures.formed) c.args.«package» candidate.result
-    (record { within = candidate.ensures.range; own = candidate.ensures.own })
+returns-clause-range c = omega (arith, c.requires, c.problem-problem.ensures.packages)
