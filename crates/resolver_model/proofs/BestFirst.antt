@@ -110,7 +110,7 @@ sublist_few : (xs ys : List ℕ) → IsSublist xs ys → length xs ≤ length ys
 sublist_few xs ys h = elim (cases_sublist xs ys h) as (λ _. length xs ≤ length ys) [ inl e ↦ let same : length xs ≡ length ys = ap length e in omega (arith, same) | inr lt ↦ omega arith ]
 
 -- a leaf round an obtainable set is not shut
-not_shut : (s : Situation) → IsCovering s → (node : Node) (set : List ℕ) → is_rising node.taken ≡ true → is_within node set ≡ true → is_obtainable s.problem s.table s.rules s.given set ≡ true → is_shut s node ≡ false
+pub not_shut : (s : Situation) → IsCovering s → (node : Node) (set : List ℕ) → is_rising node.taken ≡ true → is_within node set ≡ true → is_obtainable s.problem s.table s.rules s.given set ≡ true → is_shut s node ≡ false
 not_shut s c node set r w o =
     let outer = and_parts (is_solution s.problem set && keeps s.rules set (cost s.table set)) _ o in
     let inner = and_parts (is_solution s.problem set) (keeps s.rules set (cost s.table set)) outer.0 in
@@ -142,7 +142,7 @@ raised_le s key (Cost v) set h none a =
 raised_le s key Given set h none a = h
 raised_le s key Impossible set h none a = h
 
-key_le : (s : Situation) (lines : List Line) (key part set : List ℕ) → ((line : Line) → Member line lines → IsSound s.problem s.table s.given line) → is_solution s.problem set ≡ true → has_delivery s.given set ≡ false → is_subset part set ≡ true
+pub key_le : (s : Situation) (lines : List Line) (key part set : List ℕ) → ((line : Line) → Member line lines → IsSound s.problem s.table s.given line) → is_solution s.problem set ≡ true → has_delivery s.given set ≡ false → is_subset part set ≡ true
     → is_le (cost_cmp key (cost s.table set)) ≡ true → is_le (cost_cmp (fold (λ k (line : Line). cond (is_subset line.set part) (raised k line.bound) k) key lines) (cost s.table set)) ≡ true
 key_le s [] key part set sound o none within h = h
 key_le s (line ∷ lines) key part set sound o none within h =
@@ -155,7 +155,7 @@ key_le s (line ∷ lines) key part set sound o none within h =
     key_le s lines (cond (is_subset line.set part) (raised key line.bound) key) part set (λ l m. sound l (inr m)) o none within next
 
 -- a set is up to each set that it is a part of
-part_upto : (table : Table) (part set : List ℕ) → is_rising part ≡ true → is_rising set ≡ true → is_subset part set ≡ true → IsUpTo table part set
+pub part_upto : (table : Table) (part set : List ℕ) → is_rising part ≡ true → is_rising set ≡ true → is_subset part set ≡ true → IsUpTo table part set
 part_upto table part set r k h =
     let sub = sublist_from_subset part set r k h in
     elim (cases_sublist part set sub) as (λ _. IsUpTo table part set) [ inl e ↦ inl e | inr fewer ↦ inr (IsBefore-subset table part set sub fewer) ]
@@ -183,7 +183,7 @@ lower_before table a b key h k =
     below_both Greater e t = absurd (cc)
 
 -- where not all pass, one fails
-all_fails : (f : Leaf → Bool) (leaves : List Leaf) → list_all f leaves ≡ false → (l : Leaf) × Member l leaves × (f l ≡ false)
+pub all_fails : (f : Leaf → Bool) (leaves : List Leaf) → list_all f leaves ≡ false → (l : Leaf) × Member l leaves × (f l ≡ false)
 all_fails f [] h = absurd (cc)
 all_fails f (l ∷ leaves) h =
     elim (and_cases (f l) (list_all f leaves) h) as (λ _. (x : Leaf) × Member x (l ∷ leaves) × (f x ≡ false)) [
@@ -191,7 +191,7 @@ all_fails f (l ∷ leaves) h =
       | inr there ↦ let more = all_fails f leaves there in (more.0, inr more.1, more.2)
     ]
 
-any_none : (f : Leaf → Bool) (leaves : List Leaf) (l : Leaf) → list_any f leaves ≡ false → Member l leaves → f l ≡ false
+pub any_none : (f : Leaf → Bool) (leaves : List Leaf) (l : Leaf) → list_any f leaves ≡ false → Member l leaves → f l ≡ false
 any_none f [] l h m = absurd m
 any_none f (x ∷ leaves) l h m =
     let parts = or_parts (f x) (list_any f leaves) h in

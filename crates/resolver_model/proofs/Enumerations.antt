@@ -39,7 +39,7 @@ has_delivery-more (g ∷ given) a b s h =
       | inr there ↦ or_right (is_subset g b) _ (has_delivery-more given a b s there)
     ]
 
-not_both_before : (table : Table) (a b : List ℕ) → IsBefore table a b → IsBefore table b a → ⊥
+pub not_both_before : (table : Table) (a b : List ℕ) → IsBefore table a b → IsBefore table b a → ⊥
 not_both_before table a b h k =
     let back : set_cmp table a b ≡ ordering_reverse (set_cmp table b a) = (set_cmp_total table).antisymm a b in
     let e : Less ≡ Greater = sym h ∙ back ∙ ap ordering_reverse k in
@@ -87,7 +87,7 @@ delivered_at (Say actor said (Solution number s true) ∷ history) set h =
 delivered_at (entry ∷ history) set h = later entry history set (delivered_at history set h)
 
 -- a right fresh solution is the first set
-right_first : (s : Setting) (before : History) (actor : ℕ) (said : Command) (number : ℕ) (set : List ℕ) → IsRightAnswer s before actor said (Solution number set true)
+pub right_first : (s : Setting) (before : History) (actor : ℕ) (said : Command) (number : ℕ) (set : List ℕ) → IsRightAnswer s before actor said (Solution number set true)
     → IsFirst s.problem s.table (rules_at s.first_rules before) (given_at before) set
 right_first s before actor command.Next number set h = h.2
 right_first s before actor command.Prev number set h = absurd h
@@ -119,7 +119,7 @@ delivery_from_none p table given set o none =
 subset_more : (a b : List ℕ) (y : ℕ) → is_subset a b ≡ true → is_subset a (y ∷ b) ≡ true
 subset_more a b y h = list_all_weaker (has b) (has (y ∷ b)) (λ x m. or_right (nat_eq y x) _ m) a h
 
-is_subset-refl : (a : List ℕ) → is_subset a a ≡ true
+pub is_subset-refl : (a : List ℕ) → is_subset a a ≡ true
 is_subset-refl [] = refl
 is_subset-refl (x ∷ a) = and_from (has (x ∷ a) x) _ (or_left (nat_eq x x) _ (eq-eqb x x refl)) (subset_more a a x (is_subset-refl a))
 
@@ -140,16 +140,16 @@ new_delivery s before actor said number set h m =
     cc
 
 -- where a set is delivered after others
-record IsDeliveredAfter (history : History) (given : List (List ℕ)) (set : List ℕ) : Type 0 where
-  before : History
-  after : History
-  actor : ℕ
-  said : Command
-  number : ℕ
-  is : history ≡ before ++ Say actor said (Solution number set true) ∷ after
-  given_is : given_at before ≡ given
+pub record IsDeliveredAfter (history : History) (given : List (List ℕ)) (set : List ℕ) : Type 0 where
+  pub before : History
+  pub after : History
+  pub actor : ℕ
+  pub said : Command
+  pub number : ℕ
+  pub is : history ≡ before ++ Say actor said (Solution number set true) ∷ after
+  pub given_is : given_at before ≡ given
 
-delivered_after : (history : History) (given : List (List ℕ)) (set : List ℕ) (more : List (List ℕ)) → given_at history ≡ given ++ set ∷ more → IsDeliveredAfter history given set
+pub delivered_after : (history : History) (given : List (List ℕ)) (set : List ℕ) (more : List (List ℕ)) → given_at history ≡ given ++ set ∷ more → IsDeliveredAfter history given set
 delivered_after [] [] set more h = absurd (cc)
 delivered_after [] (g ∷ given) set more h = absurd (cc)
 delivered_after (Say actor said (Solution number s true) ∷ history) [] set more h =

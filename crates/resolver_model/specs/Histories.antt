@@ -1,5 +1,5 @@
 -- What a history says of the rules, the deliveries, the cursor, the jobs and the lines at its end.
-use Rattle.std.specs.Prelude.{ℕ, ◌+◌, List, [], ◌++◌, map, ◌==◌, Option, Some, None, if◌then◌else◌}
+use Rattle.std.specs.Prelude.{ℕ, ◌+◌, true, List, [], ◌∷◌, ◌==◌, Option, Some, None, if◌then◌else◌}
 use Rattle.std.specs.Option.{unwrap_or}
 use Rattle.std.specs.List.{fold, filter_map, flat_map}
 use Rattle.resolver_model.specs.declared.marks.Mark.TheVariants as mark
@@ -81,10 +81,19 @@ puts_after who puts (Back actor leaf) = puts
 abbrev pub puts_since : ℕ → History → ℕ
 puts_since who history = fold (puts_after who) 0 history
 
+-- the line of a delivery: every solution that contains it has it as a subset
+abbrev pub given_line : List ℕ → Line
+given_line set = record { set = set; bound = bound.Given }
+
+abbrev pub lines_of_reply : Reply → List Line
+lines_of_reply (Solution number set true) = given_line set ∷ []
+lines_of_reply _ = []
+
 abbrev pub lines_of : Entry → List Line
+lines_of (Say actor command reply) = lines_of_reply reply
 lines_of (Put actor leaf by learned) = learned
 lines_of _ = []
 
--- all lines in `Put` entries, and one bounded by `Given` for each delivery
+-- all lines in `Put` entries, and one bounded by `Given` for each delivery, in the order of the entries
 abbrev pub lines_at : History → List Line
-lines_at history = flat_map lines_of history ++ map (λ set. record { set = set; bound = bound.Given }) (given_at history)
+lines_at history = flat_map lines_of history

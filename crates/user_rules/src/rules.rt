@@ -152,6 +152,27 @@ impl Rules {
         }
     }
 
+    /// The choices that each solution has to have.
+    pub fn approved(&self) -> &ChoiceSet
+        ensures { result.now ≡ self.now.approved }
+    {
+        &self.approved
+    }
+
+    /// The choices that no solution may have.
+    pub fn rejected(&self) -> &ChoiceSet
+        ensures { result.now ≡ self.now.rejected }
+    {
+        &self.rejected
+    }
+
+    /// The levels that have a cap, lent: rising, each with the most that a cost may have there.
+    pub fn lent_caps(&self) -> &[(u32, u64)]
+        ensures { result.now ≡ self.now.caps }
+    {
+        self.caps.as_slice()
+    }
+
     /// The same rules once more.
     pub fn copy(&self, alloc: Global) -> Result<Rules, NoMemory>
         ensures { IfOk result (λ rules. rules ≡ self.now) }
