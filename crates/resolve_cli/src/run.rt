@@ -57,8 +57,8 @@ fn speak<I: Source, O: Sink>(
 /// All that the program does. `words` are those of the command line, the program's name first; the two files are read
 /// from the shelf, the lines of the dialogue from the input, and the answers go to `out`.
 ///
-/// It reads both files whole, makes the dependency problem that they give, and then answers each line before it reads
-/// the next: `next` with the next cheapest repair, or that no more is left, and any other line as a bad one. It ends with
+/// It reads both files whole, makes the dependency problem that they give, and then answers the lines of the input in
+/// turn: `next` with the next cheapest repair, or that no more is left, and any other line as a bad one. It ends with
 /// the input, at a fault, or where there is too much of something.
 pub fn run_alone<F: Shelf, I: Source, O: Sink>(
     alloc: Global,
