@@ -1,0 +1,70 @@
+//! Bytes of ASCII texts: their classes, and the decimal numbers that they write. A lowest crate: its definitions and lemmas are for
+//! all that read or write texts.
+#![tactic(auto)]
+
+ghost use Rattle.std.specs.Prelude.{◌≡◌, ◌<◌, ◌++◌, true, length, take, OnOk};
+ghost use Rattle.std.specs.Char.{is_ascii_digit};
+ghost use Rattle.std.specs.Fmt.{decimal};
+ghost use Rattle.std.specs.List.{list_all};
+ghost use Rattle.ascii.specs.Bytes.{is_space};
+ghost use Rattle.ascii.specs.Decimals.{number};
+
+use itoa::Buffer;
+use std::alloc::AllocError;
+
+/// Whether a byte is a space or a tab.
+pub fn is_space(byte: u8) -> bool
+    ensures { result ≡ is_space byte }
+{
+    byte == b' ' || byte == b'\t'
+}
+
+/// Whether each byte is a digit, `0` to `9`.
+pub fn are_digits(text: &[u8]) -> bool
+    ensures { result ≡ list_all is_ascii_digit text.now }
+{
+    text.iter().all(|byte| byte.is_ascii_digit())
+}
+
+/// The number that up to 9 digits write, 0 where there are none.
+pub fn number_of(digits: &[u8]) -> u32
+    requires few { length digits.now < 10 }
+    requires digits { list_all is_ascii_digit digits.now ≡ true }
+    ensures { result ≡ number digits.now }
+{
+    let mut value = 0;
+    for digit in digits {
+        value = value * 10 + (*digit - b'0') as u32;
+    }
+    value
+}
+
+/// Appends a number in decimal. The only error is want of memory, which leaves all that was there before.
+pub fn append_number(out: &mut Vec<u8>, number: u64) -> Result<(), AllocError>
+    ensures ok { OnOk result (out.new.items ≡ out.old.items ++ decimal number) }
+    ensures kept { take (length out.old.items) out.new.items ≡ out.old.items }
+{
+    let mut buffer = Buffer::new();
+    out.extend_from_slice(buffer.format(number).as_bytes())
+}
+
+#[cfg(test)]
+mod tests {
+    use super::*;
+    use std::test::Fail;
+
+    #[test]
+    fn classes(rt: HostRuntime) {
+        assert!(rt; is_space(b'\t') && !is_space(b'\n'));
+        assert!(rt; are_digits(b"007") && !are_digits(b"1.0"));
+    }
+
+    #[test]
+    fn numbers(rt: HostRuntime) -> Result<(), Fail> {
+        assert_eq!(rt; number_of(b"007"), 7);
+        let mut out = Vec::new(rt.alloc());
+        append_number(&mut out, 4096)?;
+        assert_eq!(rt; out.as_slice(), b"4096".as_slice());
+        Ok(())
+    }
+}
