@@ -1,0 +1,11 @@
+pub mod Truth
+pub mod Orders
+pub mod Tests
+pub mod Cuts
+pub mod Members
+pub mod Sets
+pub mod With
+pub mod Below
+pub mod Sublists
+pub mod Distinct
+pub mod Sums
