@@ -1,5 +1,5 @@
 -- Truth values: what std's `lemmas.Bool`, `Math.Bool` and `specs.Cmp.both_ways` do not say.
-use Rattle.std.proofs.Common.{◌≡◌, ℕ, Bool, true, false, ◌&&◌, ◌||◌, refl, nat_eq}
+use Rattle.std.proofs.Common.{◌≡◌, ℕ, Bool, true, false, ◌&&◌, refl, nat_eq}
 use Rattle.std.proofs.lemmas.Bool.{eq-eqb}
 
 -- the two sides of a test joined by `&&`

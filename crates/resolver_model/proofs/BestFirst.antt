@@ -1,13 +1,18 @@
 -- Where no leaf is wanted, the least finished leaf takes the first set.
-use Rattle.std.proofs.Common.{inl, inr, ◌≡◌, ◌≢◌, ◌<◌, ℕ, List, [], ◌∷◌, Bool, true, false, not, cond, ◌&&◌, ◌||◌, refl, ap, sym, ◌∙◌, arith, nat_lt, nat_eq, ◌≤◌, length, get_or}
+use Rattle.std.proofs.Common.{inl, inr, ◌≡◌, ℕ, List, [], ◌∷◌, true, false, not, cond, ◌&&◌, ◌||◌, refl, sym, ◌∙◌, arith, nat_lt, ◌≤◌, length, get_or}
 use Rattle.std.specs.List.{list_all, list_any, fold}
 use Rattle.std.specs.declared.cmp.Ordering.{Ordering}
 use Rattle.std.specs.declared.cmp.Ordering.TheVariants.{Less, Equal, Greater}
-use Rattle.std.specs.Ordering.{is_le, is_lt, ordering_then, ordering_reverse}
+use Rattle.std.specs.Ordering.{is_le, is_lt, ordering_reverse}
 use Rattle.std.proofs.lemmas.Cmp.{nat_list_cmp_total, alike_right}
-use Rattle.std.proofs.lemmas.Bool.{and_from, and_parts, and_cases, or_cases, or_parts, or_from, cases_Bool, ltb-true, eq-eqb, not-true, not-false, not_from_true, not_from_false, false_from_ne_true, leb-true, le-leb}
-use Rattle.choice_set.specs.Sets.{is_rising, has, with, union, is_subset, is_disjoint}
-use Rattle.choice_set.proofs.Rising.{is_rising-with, list_all-with}
+use Rattle.std.proofs.lemmas.Bool.{and_from, and_parts, or_cases, or_parts, or_from, cases_Bool, not-true, not-false, not_from_true, not_from_false, false_from_ne_true, leb-true, le-leb}
+use Rattle.lists.proofs.Members.{list_any-none, list_all-fails, Member}
+use Rattle.lists.proofs.Orders.{then_less}
+use Rattle.lists.proofs.Sets.{is_disjoint-subset, is_disjoint-part, rising_apart, list_all-has, list_any-has, is_subset-trans}
+use Rattle.lists.proofs.Sublists.{IsSublist, sublist_from_subset, cases_sublist, length-sublist}
+use Rattle.lists.proofs.Truth.{and_second-false, nat_eq-same}
+use Rattle.lists.proofs.With.{is_subset-union, is_rising-union}
+use Rattle.lists.specs.Sets.{is_rising, has, union, is_subset, is_disjoint}
 use Rattle.resolver_model.specs.declared.node.Node.{Node}
 use Rattle.resolver_model.specs.declared.lines.Bound.{Bound}
 use Rattle.resolver_model.specs.declared.lines.Bound.TheVariants.{Cost, Given, Impossible}
@@ -18,17 +23,12 @@ use Rattle.resolver_model.specs.Rules.{Cap, is_under, keeps}
 use Rattle.resolver_model.specs.First.{is_obtainable, IsFirst}
 use Rattle.resolver_model.specs.Lines.{has_delivery, agrees_with, reaches, IsSound}
 use Rattle.resolver_model.specs.Trees.{Leaf, Situation, is_within, is_final, is_shut, is_finished, is_wanted, is_some_wanted, key_of, raised}
-use Rattle.resolver_model.proofs.Members.{Member}
-use Rattle.resolver_model.proofs.Below.{list_all-has}
 use Rattle.resolver_model.proofs.SetOrder.{IsUpTo, IsUpTo-trans}
-use Rattle.resolver_model.proofs.Subsets.{IsSublist, sublist_from_subset, cases_sublist, cost_part-sublist, IsBefore-subset}
-use Rattle.resolver_model.proofs.Splits.{one_install, any_found}
+use Rattle.resolver_model.proofs.Subsets.{cost_part-sublist, IsBefore-subset}
+use Rattle.resolver_model.proofs.Splits.{one_install}
 use Rattle.resolver_model.proofs.Soundness.{cost-subset}
-use Rattle.resolver_model.proofs.Enumerations.{solution_rises, has_delivery-more, is_subset-trans}
-
--- a subset of a consistent set
-rising_apart : (c y : ℕ) (set : List ℕ) → list_all (λ z. nat_lt c z) set ≡ true → has set y ≡ true → c ≢ y
-rising_apart c y set h m e = let lt : c < y = ltb-true c y (list_all-has (λ z. nat_lt c z) set y h m) in absurd (omega arith)
+use Rattle.resolver_model.proofs.Enumerations.{solution_rises, has_delivery-more}
+pub use Rattle.lists.proofs.Members.{list_all-fails as all_fails, list_any-none as any_none}
 
 pub is_consistent-subset : (p : Problem) (part set : List ℕ) → is_rising part ≡ true → is_subset part set ≡ true → is_consistent p set ≡ true → is_consistent p part ≡ true
 is_consistent-subset p [] set r h k = refl
@@ -38,37 +38,11 @@ is_consistent-subset p (c ∷ part) set r h k =
     let alone : (nat_lt c (version_count p) && changes p part (package_of p c)) ≡ false =
     false_from_ne_true _ (λ t.
     let low = and_parts (nat_lt c (version_count p)) _ t in
-    let y = any_found (installs_of p (package_of p c)) part low.1 in
-    let own : installs_of p (package_of p c) c ≡ true = and_from (nat_lt c (version_count p)) _ low.0 (same_number (package_of p c)) in
+    let y = list_any-has (installs_of p (package_of p c)) part low.1 in
+    let own : installs_of p (package_of p c) c ≡ true = and_from (nat_lt c (version_count p)) _ low.0 (nat_eq-same (package_of p c)) in
     rising_apart c y.0 part rises.0 y.1 (one_install p (package_of p c) set c y.0 k own y.2 both.0 (list_all-has (has set) part y.0 both.1 y.1)))
     in
     and_from (not (nat_lt c (version_count p) && changes p part (package_of p c))) _ (not_from_false _ alone) (is_consistent-subset p part set rises.1 both.1 k)
-  where
-    same_number : (n : ℕ) → nat_eq n n ≡ true
-    same_number n = eq-eqb n n refl
-
-is_rising-union : (xs ys : List ℕ) → is_rising xs ≡ true → is_rising (union xs ys) ≡ true
-is_rising-union xs [] h = h
-is_rising-union xs (y ∷ ys) h = is_rising-union (with xs y) ys (is_rising-with xs y h)
-
-union-subset : (xs ys set : List ℕ) → is_subset xs set ≡ true → is_subset ys set ≡ true → is_subset (union xs ys) set ≡ true
-union-subset xs [] set h k = h
-union-subset xs (y ∷ ys) set h k = let parts = and_parts (has set y) (is_subset ys set) k in union-subset (with xs y) ys set (list_all-with (has set) xs y h parts.0) parts.1
-
--- what avoids a set avoids its parts
-disjoint_part : (xs part set : List ℕ) → is_subset part set ≡ true → is_disjoint xs set ≡ true → is_disjoint xs part ≡ true
-disjoint_part [] part set h k = refl
-disjoint_part (x ∷ xs) part set h k =
-    let parts = and_parts (not (has set x)) (is_disjoint xs set) k in
-    let away : has part x ≡ false = false_from_ne_true _ (λ m. let there : has set x ≡ true = list_all-has (has set) part x h m in let no : has set x ≡ false = not-true _ parts.0 in let f : true ≡ false = sym there ∙ no in cc) in
-    and_from (not (has part x)) _ (not_from_false _ away) (disjoint_part xs part set h parts.1)
-
-disjoint_both : (xs ys set : List ℕ) → is_subset xs set ≡ true → is_disjoint ys set ≡ true → is_disjoint xs ys ≡ true
-disjoint_both [] ys set h k = refl
-disjoint_both (x ∷ xs) ys set h k =
-    let parts = and_parts (has set x) (is_subset xs set) h in
-    let away : has ys x ≡ false = false_from_ne_true _ (λ m. let no : has set x ≡ false = not-true _ (list_all-has (λ y. not (has set y)) ys x k m) in let f : true ≡ false = sym parts.0 ∙ no in cc) in
-    and_from (not (has ys x)) _ (not_from_false _ away) (disjoint_both xs ys set parts.1 k)
 
 -- What a search knows of its leaves.
 pub record IsCovering (s : Situation) : Type 0 where
@@ -106,9 +80,6 @@ under_part table part set (c ∷ caps) h few k =
     let less = cost_part-sublist table part set c.0 h few in
     and_from (is_under (cost table part) c) _ (le-leb _ _ (omega (arith, most, less))) (under_part table part set caps h few parts.1)
 
-sublist_few : (xs ys : List ℕ) → IsSublist xs ys → length xs ≤ length ys
-sublist_few xs ys h = elim (cases_sublist xs ys h) as (λ _. length xs ≤ length ys) [ inl e ↦ let same : length xs ≡ length ys = ap length e in omega (arith, same) | inr lt ↦ omega arith ]
-
 -- a leaf round an obtainable set is not shut
 pub not_shut : (s : Situation) → IsCovering s → (node : Node) (set : List ℕ) → is_rising node.taken ≡ true → is_within node set ≡ true → is_obtainable s.problem s.table s.rules s.given set ≡ true → is_shut s node ≡ false
 not_shut s c node set r w o =
@@ -120,13 +91,13 @@ not_shut s c node set r w o =
     let within = and_parts (is_subset node.taken set) (is_disjoint node.barred set) w in
     let consistent = (and_parts (is_choice_set s.problem set) _ (and_parts _ _ inner.0).0).1 in
     let sub = sublist_from_subset node.taken set r (solution_rises s.problem set inner.0) within.0 in
-    let cheap = under_part s.table node.taken set s.rules.caps sub (sublist_few node.taken set sub) kept_all.1 in
+    let cheap = under_part s.table node.taken set s.rules.caps sub (length-sublist node.taken set sub) kept_all.1 in
     or_from _ _
     (or_from _ _
     (or_from _ _
     (or_from _ _
-    (or_from _ _ (not_from_true _ (disjoint_part s.rules.rejected node.taken set within.0 kept.1)) (not_from_true _ (disjoint_both s.rules.approved node.barred set kept.0 within.1)))
-    (not_from_true _ (is_consistent-subset s.problem (union node.taken s.rules.approved) set (is_rising-union node.taken s.rules.approved r) (union-subset node.taken s.rules.approved set within.0 kept.0) consistent)))
+    (or_from _ _ (not_from_true _ (is_disjoint-part s.rules.rejected node.taken set within.0 kept.1)) (not_from_true _ (is_disjoint-subset s.rules.approved node.barred set kept.0 within.1)))
+    (not_from_true _ (is_consistent-subset s.problem (union node.taken s.rules.approved) set (is_rising-union node.taken s.rules.approved r) (is_subset-union node.taken s.rules.approved set within.0 kept.0) consistent)))
     (false_from_ne_true _ (λ t. let there = has_delivery-more s.given node.taken set within.0 t in let f : true ≡ false = sym there ∙ none in cc)))
     (not_from_true _ cheap))
     (no_final s s.lines node.taken set c.sound inner.0 none within.0)
@@ -165,37 +136,17 @@ lower_before : (table : Table) (a b key : List ℕ) → is_le (cost_cmp key (cos
 lower_before table a b key h k =
     let o = nat_list_cmp_total in
     let above : cost_cmp (cost table a) key ≡ Less = o.antisymm (cost table a) key ∙ flipped (cost_cmp key (cost table a)) h in
-    first_decides (cost_cmp (cost table a) (cost table b)) _ (below_both (cost_cmp key (cost table b)) refl k)
+    then_less (cost_cmp (cost table a) (cost table b)) _ (below_both (cost_cmp key (cost table b)) refl k)
   where
     flipped : (r : Ordering) → is_le r ≡ false → ordering_reverse r ≡ Less
     flipped Less h = absurd (cc)
     flipped Equal h = absurd (cc)
     flipped Greater h = refl
 
-    first_decides : (r t : Ordering) → r ≡ Less → ordering_then r t ≡ Less
-    first_decides Less t h = refl
-    first_decides Equal t h = absurd (cc)
-    first_decides Greater t h = absurd (cc)
-
     below_both : (r : Ordering) → cost_cmp key (cost table b) ≡ r → is_le r ≡ true → cost_cmp (cost table a) (cost table b) ≡ Less
     below_both Less e t = nat_list_cmp_total.trans (cost table a) key (cost table b) (nat_list_cmp_total.antisymm (cost table a) key ∙ flipped (cost_cmp key (cost table a)) h) e
     below_both Equal e t = sym (alike_right nat_list_cmp_total key (cost table b) (cost table a) e) ∙ nat_list_cmp_total.antisymm (cost table a) key ∙ flipped (cost_cmp key (cost table a)) h
     below_both Greater e t = absurd (cc)
-
--- where not all pass, one fails
-pub all_fails : (f : Leaf → Bool) (leaves : List Leaf) → list_all f leaves ≡ false → (l : Leaf) × Member l leaves × (f l ≡ false)
-all_fails f [] h = absurd (cc)
-all_fails f (l ∷ leaves) h =
-    elim (and_cases (f l) (list_all f leaves) h) as (λ _. (x : Leaf) × Member x (l ∷ leaves) × (f x ≡ false)) [
-      | inl here ↦ (l, inl refl, here)
-      | inr there ↦ let more = all_fails f leaves there in (more.0, inr more.1, more.2)
-    ]
-
-pub any_none : (f : Leaf → Bool) (leaves : List Leaf) (l : Leaf) → list_any f leaves ≡ false → Member l leaves → f l ≡ false
-any_none f [] l h m = absurd m
-any_none f (x ∷ leaves) l h m =
-    let parts = or_parts (f x) (list_any f leaves) h in
-    elim m as (λ _. f l ≡ false) [ inl e ↦ ap f e ∙ parts.0 | inr k ↦ any_none f leaves l parts.1 k ]
 
 pub finished_obtainable : (s : Situation) → IsCovering s → (f : Leaf) → Member f s.leaves → is_finished s f.node ≡ true → is_obtainable s.problem s.table s.rules s.given f.node.taken ≡ true
 finished_obtainable s c f m h =
@@ -228,9 +179,9 @@ IsFirst-finished s c f m done still least = record {
       elim (cases_Bool (is_finished s leaf.node)) as (λ _. IsUpTo s.table f.node.taken set) [
         | inl finished ↦ IsUpTo-trans s.table f.node.taken leaf.node.taken set (least leaf round.1 finished) part
         | inr unfinished ↦
-            let unwanted : is_wanted s leaf.node ≡ false = any_none (λ l. is_wanted s l.node) s.leaves leaf still round.1 in
+            let unwanted : is_wanted s leaf.node ≡ false = list_any-none (λ l. is_wanted s l.node) s.leaves leaf still round.1 in
             let free : (not (is_shut s leaf.node) && not (is_finished s leaf.node)) ≡ true = and_from _ _ (not_from_false _ shut_not) (not_from_false _ unfinished) in
-            let lower = all_fails (λ other. not (is_finished s other.node) || is_le (cost_cmp (key_of s leaf.node) (cost s.table other.node.taken))) s.leaves (second_fails _ _ unwanted free) in
+            let lower = list_all-fails (λ other. not (is_finished s other.node) || is_le (cost_cmp (key_of s leaf.node) (cost s.table other.node.taken))) s.leaves (and_second-false _ _ unwanted free) in
             let two = or_parts (not (is_finished s lower.0.node)) _ lower.2 in
             let key = key_le s s.lines (cost s.table leaf.node.taken) leaf.node.taken set c.sound solution none within.0 (cost-subset s.table leaf.node.taken set rises (solution_rises s.problem set solution) within.0) in
             let less = lower_before s.table lower.0.node.taken set (key_of s leaf.node) two.1 key in
@@ -239,7 +190,3 @@ IsFirst-finished s c f m done still least = record {
       in
       elim upto as (λ _. IsBefore s.table f.node.taken set) [ inl e ↦ absurd (apart (sym e)) | inr lt ↦ lt ];
 }
-  where
-    second_fails : (a b : Bool) → (a && b) ≡ false → a ≡ true → b ≡ false
-    second_fails true b h k = h
-    second_fails false b h k = absurd (cc)

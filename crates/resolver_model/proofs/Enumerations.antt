@@ -1,10 +1,11 @@
 -- Once no more is left, and where no rule stood, the deliveries are the minimal solutions, each once.
-use Rattle.std.proofs.Common.{inl, inr, ◌≡◌, ◌≢◌, ℕ, List, [], ◌∷◌, ◌++◌, true, false, ◌&&◌, length, refl, ap, sym, subst, ◌∙◌, arith, nat_eq}
+use Rattle.std.proofs.Common.{inl, inr, ◌≡◌, ◌≢◌, ℕ, List, [], ◌∷◌, ◌++◌, true, false, ◌&&◌, length, refl, ap, sym, subst, ◌∙◌, arith}
 use Rattle.std.specs.declared.cmp.Ordering.TheVariants.{Less, Greater}
 use Rattle.std.specs.Ordering.{ordering_reverse}
-use Rattle.std.proofs.lemmas.Bool.{and_from, and_parts, or_cases, or_left, or_right, not_from_false, not-true, false_from_ne_true, true_from_ne_false, eq-eqb}
-use Rattle.choice_set.specs.Sets.{is_rising, has, is_subset}
-use Rattle.choice_set.proofs.Rising.{list_all_weaker}
+use Rattle.std.proofs.lemmas.Bool.{and_from, and_parts, or_cases, or_left, or_right, not_from_false, not-true, false_from_ne_true, true_from_ne_false}
+use Rattle.lists.proofs.Members.{Member}
+use Rattle.lists.proofs.Sublists.{sublist_from_subset, cases_sublist}
+use Rattle.lists.specs.Sets.{is_rising, is_subset}
 use Rattle.resolver_model.specs.declared.history.Command.{Command}
 use Rattle.resolver_model.specs.declared.history.Command.TheVariants as command
 use Rattle.resolver_model.specs.declared.history.Reply.TheVariants.{Solution}
@@ -18,17 +19,13 @@ use Rattle.resolver_model.specs.Lines.{has_delivery}
 use Rattle.resolver_model.specs.Histories.{History, given_at, rules_at}
 use Rattle.resolver_model.specs.Answers.{Setting, IsRightAnswer}
 use Rattle.resolver_model.specs.Enumeration.{EnumeratesMinimal}
-use Rattle.resolver_model.proofs.Members.{Member}
 use Rattle.resolver_model.proofs.SetOrder.{set_cmp_total}
-use Rattle.resolver_model.proofs.Below.{list_all-has}
-use Rattle.resolver_model.proofs.Subsets.{sublist_from_subset, cases_sublist, IsBefore-subset}
+use Rattle.resolver_model.proofs.Subsets.{IsBefore-subset}
+pub use Rattle.lists.proofs.Sets.{is_subset-trans, is_subset-refl}
 
 -- a solution's list rises
 pub solution_rises : (p : Problem) (set : List ℕ) → is_solution p set ≡ true → is_rising set ≡ true
 solution_rises p set h = (and_parts (is_rising set) _ (and_parts _ _ (and_parts _ _ h).0).0).0
-
-pub is_subset-trans : (a b c : List ℕ) → is_subset a b ≡ true → is_subset b c ≡ true → is_subset a c ≡ true
-is_subset-trans a b c h k = list_all_weaker (has b) (has c) (λ x m. list_all-has (has c) b x k m) a h
 
 -- a delivery within a subset is within the set
 pub has_delivery-more : (given : List (List ℕ)) (a b : List ℕ) → is_subset a b ≡ true → has_delivery given a ≡ true → has_delivery given b ≡ true
@@ -115,13 +112,6 @@ delivery_from_none p table given set o none =
     true_from_ne_false _ (λ no.
     let can : is_obtainable p table no_rules given set ≡ true = and_from (is_solution p set && keeps no_rules set (cost table set)) _ (and_from (is_solution p set) _ o refl) (not_from_false _ no) in
     cc)
-
-subset_more : (a b : List ℕ) (y : ℕ) → is_subset a b ≡ true → is_subset a (y ∷ b) ≡ true
-subset_more a b y h = list_all_weaker (has b) (has (y ∷ b)) (λ x m. or_right (nat_eq y x) _ m) a h
-
-pub is_subset-refl : (a : List ℕ) → is_subset a a ≡ true
-is_subset-refl [] = refl
-is_subset-refl (x ∷ a) = and_from (has (x ∷ a) x) _ (or_left (nat_eq x x) _ (eq-eqb x x refl)) (subset_more a a x (is_subset-refl a))
 
 member_delivery : (given : List (List ℕ)) (set : List ℕ) → Member set given → has_delivery given set ≡ true
 member_delivery [] set h = absurd h

@@ -4,12 +4,12 @@ use Rattle.std.specs.List.{filter, fold}
 use Rattle.std.specs.Ordering.{is_lt}
 use Rattle.std.proofs.lemmas.Cmp.{tied_itself}
 use Rattle.std.proofs.lemmas.Bool.{and_parts, false_from_ne_true}
+use Rattle.lists.proofs.Members.{Member, Member-filter, Member-filter_passes}
 use Rattle.resolver_model.specs.Problems.{Problem, choices, is_solution, is_choice_set}
 use Rattle.resolver_model.specs.Costs.{Table, set_cmp, IsBefore}
 use Rattle.resolver_model.specs.Rules.{Rules}
 use Rattle.resolver_model.specs.First.{is_obtainable, IsFirst, IsNoneLeft}
 use Rattle.resolver_model.specs.Scan.{sublists, earlier, earliest, first}
-use Rattle.resolver_model.proofs.Members.{Member, Member-filter, Member-filter_passes}
 use Rattle.resolver_model.proofs.SetOrder.{set_cmp_total, IsUpTo, IsUpTo-trans, cases_set_cmp}
 use Rattle.resolver_model.proofs.Sublists.{choice_set_member}
 

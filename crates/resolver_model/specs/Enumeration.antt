@@ -1,6 +1,6 @@
 -- What a session without rules has enumerated once no more is left.
 use Rattle.std.specs.Prelude.{◌≡◌, ℕ, true, List, ◌∷◌, ◌++◌}
-use Rattle.resolver_model.specs.Members.{Member}
+use Rattle.lists.specs.Members.{Member}
 use Rattle.resolver_model.specs.declared.history.Command.{Command}
 use Rattle.resolver_model.specs.declared.history.Command.TheVariants.{Next}
 use Rattle.resolver_model.specs.declared.history.Reply.TheVariants.{Solution, NoMore}

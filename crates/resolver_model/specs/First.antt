@@ -1,7 +1,7 @@
 -- Which set answers a request for the next solution.
 use Rattle.std.specs.Prelude.{◌≢◌, ℕ, Bool, not, ◌&&◌, List, IsTrue, IsFalse}
 use Rattle.std.specs.List.{list_any}
-use Rattle.choice_set.specs.Sets.{is_subset}
+use Rattle.lists.specs.Sets.{is_subset}
 use Rattle.resolver_model.specs.Problems.{Problem, is_solution}
 use Rattle.resolver_model.specs.Costs.{Table, cost, IsBefore}
 use Rattle.resolver_model.specs.Rules.{Rules, keeps}

@@ -1,7 +1,7 @@
 -- What a split has to learn.
 use Rattle.std.specs.Prelude.{◌≡◌, ◌<◌, ◌≤◌, ℕ, List, [], ◌∷◌, ◌++◌, length, slice_index_or, IsTrue, IsFalse, Some, ⊤}
 use Rattle.std.specs.List.{list_all}
-use Rattle.choice_set.specs.Sets.{with, is_subset}
+use Rattle.lists.specs.Sets.{with, is_subset}
 use Rattle.resolver_model.specs.declared.lines.Bound.{Bound}
 use Rattle.resolver_model.specs.declared.lines.Bound.TheVariants.{Cost}
 use Rattle.resolver_model.specs.declared.lines.Line.{Line}

@@ -1,7 +1,7 @@
 -- Which histories are legal.
 use Rattle.std.specs.Prelude.{◌≡◌, ◌≢◌, ◌<◌, ◌≤◌, ◌+◌, ℕ, true, List, [], ◌∷◌, ◌++◌, length, nat_lt, IsTrue, IsFalse, Some, None, ⊤}
 use Rattle.std.specs.List.{Any, list_all}
-use Rattle.choice_set.specs.Sets.{has, with, is_disjoint}
+use Rattle.lists.specs.Sets.{has, with, is_disjoint}
 use Rattle.resolver_model.specs.declared.lines.Line.{Line}
 use Rattle.resolver_model.specs.declared.node.Node.{Node}
 use Rattle.resolver_model.specs.declared.history.By.{By}

@@ -2,7 +2,7 @@
 use Rattle.std.specs.Prelude.{◌≤◌, ℕ, Bool, not, ◌&&◌, ◌||◌, List, [], ◌∷◌, map, nat_lt, nat_le, ◌==◌, slice_index, IsTrue, Option, Some, None, if◌then◌else◌}
 use Rattle.std.specs.List.{filter, find, list_any, list_all}
 use Rattle.std.specs.Option.{option_map}
-use Rattle.choice_set.specs.Sets.{has, with, without, union, is_subset, is_disjoint}
+use Rattle.lists.specs.Sets.{has, with, without, union, is_subset, is_disjoint}
 use Rattle.resolver_model.specs.declared.marks.Mark.{Mark}
 use Rattle.resolver_model.specs.declared.marks.Mark.TheVariants.{Free, Approved, Rejected}
 

@@ -3,7 +3,7 @@ use Rattle.std.specs.Prelude.{ℕ, ◌+◌, Bool, true, false, not, ◌&&◌, �
 use Rattle.std.specs.Option.{unwrap_or, option_map}
 use Rattle.std.specs.List.{fold, filter, flat_map, find, list_any, list_all}
 use Rattle.std.specs.Ordering.{is_lt, is_le}
-use Rattle.choice_set.specs.Sets.{has, with, union, is_subset, is_disjoint}
+use Rattle.lists.specs.Sets.{has, with, union, is_subset, is_disjoint}
 use Rattle.resolver_model.specs.declared.node.Node.{Node}
 use Rattle.resolver_model.specs.declared.lines.Bound.{Bound}
 use Rattle.resolver_model.specs.declared.lines.Bound.TheVariants.{Cost, Given, Impossible}

@@ -1,5 +1,6 @@
 use Rattle.std.proofs.Common.{◌+◌, sym, ◌∙◌}
-use Rattle.choice_set.proofs.Rising.{merged, not_merged, is_rising-drop}
+use Rattle.lists.proofs.Sets.{is_rising-drop}
+use Rattle.choice_set.proofs.Rising.{merged, not_merged}
 use Rattle.choice_set.proofs.ChoiceSet.is_subset.Goals as goal
 
 pub returns-in_default : goal.returns-in_default

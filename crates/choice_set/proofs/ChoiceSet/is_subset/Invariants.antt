@@ -1,5 +1,5 @@
 use Rattle.std.proofs.Common.{◌≡◌, drop, IsTrue}
-use Rattle.choice_set.specs.Sets.{is_rising, is_subset}
+use Rattle.lists.specs.Sets.{is_rising, is_subset}
 use Rattle.choice_set.proofs.ChoiceSet.is_subset.Given as goal
 
 -- what is left of the one list has to be in what is left of the other
