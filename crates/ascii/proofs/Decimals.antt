@@ -1,5 +1,5 @@
 -- The number that digits write, digit by digit.
-use Rattle.std.proofs.Common.{◌≡◌, ◌<◌, ◌≤◌, ◌+◌, ◌-◌, ◌*◌, ◌^◌, ℕ, zero, suc, Bool, true, false, List, [], ◌∷◌, ◌++◌, length, take, arith, refl, ap, ◌∙◌, get_or, add-one, add-zero, add-suc}
+use Rattle.std.proofs.Common.{◌≡◌, ◌<◌, ◌≤◌, ◌+◌, ◌-◌, ◌*◌, ◌^◌, ℕ, zero, suc, Bool, true, false, cond, Some, None, List, [], ◌∷◌, ◌++◌, length, take, arith, refl, ap, ◌∙◌, get_or, add-one, add-zero, add-suc, nat_lt}
 use Rattle.std.proofs.Math.Nat.{pow-suc}
 use Rattle.std.proofs.Math.Dec.{leb}
 use Rattle.std.proofs.lemmas.Bool.{and_parts, leb-true}
@@ -7,6 +7,8 @@ use Rattle.std.proofs.lemmas.List.Folds.{list_all_at}
 use Rattle.std.proofs.lemmas.Int.Digits.{digits_value_more}
 use Rattle.std.proofs.lemmas.Str.{digit_value_digit}
 use Rattle.std.specs.Char.{is_ascii_digit, digit_value}
+use Rattle.std.proofs.lemmas.Bool.Decides.{nat_tests}
+use Rattle.std.proofs.lemmas.Str.Parse.{digits_value-take-le}
 use Rattle.std.specs.List.{list_all}
 use Rattle.std.specs.Str.Parse.{digits_value_after}
 use Rattle.ascii.specs.Decimals.{number}
@@ -65,3 +67,26 @@ after-push n (c ∷ ds) d = after-push (n * 10 + digit_value c) ds d
 -- digits with one behind them
 pub number-push : (ds : List ℕ) (d : ℕ) → is_ascii_digit d ≡ true → number (ds ++ d ∷ []) ≡ number ds * 10 + (d - 48)
 number-push ds d h = after-push 0 ds d ∙ ap (λ v. number ds * 10 + v) (digit_from d h).value
+
+-- a number that is past a bound after some digits is past it after all
+pub number-past : (ds : List ℕ) (i value most : ℕ) → list_all is_ascii_digit ds ≡ true → i < length ds → value ≡ number (take i ds)
+    → nat_lt (value * 10 + (get_or ds i 0 - 48)) most ≡ false → nat_lt (number ds) most ≡ false
+number-past ds i value most all h is past =
+    let more = number-more ds i value all h is in
+    let upto : number (take (i + 1) ds) ≤ number ds = digits_value-take-le 10 ds (i + 1) (omega arith) in
+    grind (arith, nat_tests)
+
+-- what a bound leaves of a number
+pub cut-some : (n most value : ℕ) → cond (nat_lt n most) (Some n) None ≡ Some value → (value ≡ n) × (nat_lt n most ≡ true)
+cut-some n most value h = by (nat_lt n most) refl h
+  where
+    by : (b : Bool) → nat_lt n most ≡ b → cond b (Some n) None ≡ Some value → (value ≡ n) × (nat_lt n most ≡ true)
+    by true e h = ((cc), e)
+    by false e h = absurd (cc)
+
+pub cut-none : (n most : ℕ) → cond (nat_lt n most) (Some n) None ≡ None → nat_lt n most ≡ false
+cut-none n most h = by (nat_lt n most) refl h
+  where
+    by : (b : Bool) → nat_lt n most ≡ b → cond b (Some n) None ≡ None → nat_lt n most ≡ false
+    by true e h = absurd (cc)
+    by false e h = e

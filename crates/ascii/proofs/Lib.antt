@@ -1,3 +1,4 @@
 pub mod Bytes
 pub mod Texts
 pub mod Decimals
+pub mod Wording

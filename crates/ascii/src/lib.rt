@@ -2,15 +2,18 @@
 //! all that read or write texts.
 #![tactic(auto)]
 
-ghost use Rattle.std.specs.Prelude.{◌≡◌, ◌<◌, ◌++◌, true, length, take, OnOk};
+ghost use Rattle.std.specs.Prelude.{◌≡◌, ◌<◌, ◌+◌, ◌-◌, ◌*◌, ◌++◌, ◌^◌, true, cond, nat_lt, Some, None, length, take, OnOk};
 ghost use Rattle.std.specs.Char.{is_ascii_digit};
 ghost use Rattle.std.specs.Fmt.{decimal};
 ghost use Rattle.std.specs.List.{list_all};
 ghost use Rattle.ascii.specs.Bytes.{is_space};
 ghost use Rattle.ascii.specs.Decimals.{number};
 
+mod words;
+
 use itoa::Buffer;
 use std::alloc::AllocError;
+pub use words::next_word;
 
 /// Whether a byte is a space or a tab.
 pub fn is_space(byte: u8) -> bool
@@ -39,6 +42,34 @@ pub fn number_of(digits: &[u8]) -> u32
     value
 }
 
+/// The number that digits write, however many there are, 0 where there are none; `None` exactly where it is past 64 bits.
+pub fn number_within(digits: &[u8]) -> Option<u64>
+    requires { list_all is_ascii_digit digits.now ≡ true }
+    ensures { result ≡ cond (nat_lt (number digits.now) (2 ^ 64)) (Some (number digits.now)) None }
+{
+    let mut value: u64 = 0;
+    for digit in digits {
+        match with_digit(value, *digit) {
+            Some(more) => value = more,
+            None => return None,
+        }
+    }
+    Some(value)
+}
+
+// A number with one digit more behind it, if it fits 64 bits.
+fn with_digit(value: u64, digit: u8) -> Option<u64>
+    requires { is_ascii_digit digit ≡ true }
+    ensures { result ≡ cond (nat_lt (value * 10 + (digit - 48)) (2 ^ 64)) (Some (value * 10 + (digit - 48))) None }
+{
+    let wide = value as u128 * 10 + (digit - b'0') as u128;
+    if wide < 1 << 64 {
+        Some(wide as u64)
+    } else {
+        None
+    }
+}
+
 /// Appends a number in decimal. The only error is want of memory, which leaves all that was there before.
 pub fn append_number(out: &mut Vec<u8>, number: u64) -> Result<(), AllocError>
     ensures ok { OnOk result (out.new.items ≡ out.old.items ++ decimal number) }
@@ -60,8 +91,17 @@ mod tests {
     }
 
     #[test]
+    fn words(rt: HostRuntime) {
+        let first = next_word(b" next\t");
+        assert_eq!(rt; first, Some((b"next".as_slice(), b"\t".as_slice())));
+        assert!(rt; next_word(b" \t").is_none());
+    }
+
+    #[test]
     fn numbers(rt: HostRuntime) -> Result<(), Fail> {
         assert_eq!(rt; number_of(b"007"), 7);
+        assert_eq!(rt; number_within(b"18446744073709551615"), Some(u64::MAX));
+        assert_eq!(rt; number_within(b"18446744073709551616"), None);
         let mut out = Vec::new(rt.alloc());
         append_number(&mut out, 4096)?;
         assert_eq!(rt; out.as_slice(), b"4096".as_slice());
