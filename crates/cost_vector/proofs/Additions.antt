@@ -7,16 +7,14 @@ use Rattle.std.proofs.lemmas.List.Sums.{sum_by-cons}
 use Rattle.std.specs.declared.cmp.Ordering.{Ordering}
 use Rattle.std.specs.declared.cmp.Ordering.TheVariants.{Less}
 use Rattle.std.specs.Ordering.{nat_cmp, ordering_then}
-use Rattle.choice_set.specs.Sets.{has, with, is_rising}
-use Rattle.choice_set.proofs.Rising.{length-rising, is_rising-with, list_all-with}
 use Rattle.resolver_model.specs.Costs.{Level, Table, amount, level_cost, cost, cost_cmp}
 use Rattle.cost_vector.specs.Additions.{part_with, parts_with, cost_with, fits}
 use Rattle.cost_vector.specs.Rows.{levels_of}
 use Rattle.std.proofs.Math.Nat.{suc-mul}
-
-fold_max_from : (a : ℕ) (xs : List ℕ) → fold max a xs ≡ max a (fold max 0 xs)
-fold_max_from a [] = omega arith
-fold_max_from a (x ∷ xs) = omega (arith, fold_max_from (max a x) xs, fold_max_from (max 0 x) xs)
+use Rattle.lists.proofs.Sets.{length-rising}
+use Rattle.lists.proofs.Sums.{fold-max}
+use Rattle.lists.proofs.With.{is_rising-with, list_all-with}
+use Rattle.lists.specs.Sets.{has, with, is_rising}
 
 -- c is no member
 pub length-with : (xs : List ℕ) (c : ℕ) → has xs c ≡ false → length (with xs c) ≡ length xs + 1
@@ -43,7 +41,7 @@ greatest-with f a (x ∷ xs) c h =
     let no = or_parts (nat_eq x c) (has xs c) h in
     elim (nat_lt x c) as (λ r. fold max a (map f (cond r (x ∷ with xs c) (cond (nat_eq x c) (x ∷ xs) (c ∷ x ∷ xs)))) ≡ max (fold max a (map f (x ∷ xs))) (f c)) [
       | true ↦ greatest-with f (max a (f x)) xs c no.1
-      | false ↦ rw no.0 (omega (arith, fold_max_from (max (max a (f c)) (f x)) (map f xs), fold_max_from (max a (f x)) (map f xs)))
+      | false ↦ rw no.0 (omega (arith, fold-max (max (max a (f c)) (f x)) (map f xs), fold-max (max a (f x)) (map f xs)))
     ]
 
 pub level_cost-with : (level : Level) (set : List ℕ) (c : ℕ) → has set c ≡ false → part_with level (level_cost level set) c ≡ level_cost level (with set c)

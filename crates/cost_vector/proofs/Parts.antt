@@ -1,7 +1,7 @@
 -- The parts and words of a text that is put together.
 use Rattle.std.proofs.Common.{◌≡◌, ℕ, suc, ◌+◌, ◌-◌, ◌<◌, ◌≤◌, List, [], ◌∷◌, ◌++◌, length, Bool, true, false, not, ◌&&◌, ◌||◌, cond, nat_eq, nat_le, Option, Some, None, is_some, refl, sym, ap, ◌∙◌, subst, inl, inr, ◌⊎◌, append_assoc, append-nil, arith}
 use Rattle.std.specs.List.{slice_split, onto_first, filter, list_all, All}
-use Rattle.std.proofs.lemmas.Bool.{and_from, and_parts, or_parts, or_cases, or_from, eq-eqb, ne_eqb, eqb-true, eqb-false, both_ways}
+use Rattle.std.proofs.lemmas.Bool.{and_from, and_parts, or_parts, or_cases, or_from, eq-eqb, ne_eqb, eqb-true, eqb-false, both_ways, not-true}
 use Rattle.cost_vector.specs.Grammar.{parts, words, is_empty, only}
 
 -- no byte of the text is c
@@ -28,12 +28,8 @@ pub parts-onto : (c : ℕ) (front text first : List ℕ) (others : List (List �
 parts-onto c [] text first others h e = e
 parts-onto c (b ∷ front) text first others h e =
     let both = and_parts (not (nat_eq b c)) (lacks c front) h in
-    let other : nat_eq b c ≡ false = not_true (nat_eq b c) both.0 in
+    let other : nat_eq b c ≡ false = not-true (nat_eq b c) both.0 in
     rw (other, parts-onto c front text first others both.1 e) refl
-  where
-    not_true : (t : Bool) → not t ≡ true → t ≡ false
-    not_true true h = absurd (cc)
-    not_true false h = refl
 
 -- a text without c is one part
 pub parts-one : (c : ℕ) (text : List ℕ) → lacks c text ≡ true → parts c text ≡ text ∷ []

@@ -38,20 +38,16 @@ impl CostName {
     pub fn from_slice(alloc: Global, bytes: &[u8]) -> Result<CostName, NoMemory>
         ensures { IfOk result (λ name. name ≡ bytes.now) }
     {
-        match Vec::from_slice(alloc, bytes) {
-            Ok(bytes) => Ok(CostName { bytes }),
-            Err(_) => Err(NoMemory),
-        }
+        let bytes = Vec::from_slice(alloc, bytes)?;
+        Ok(CostName { bytes })
     }
 
     /// Adds a byte at the end. After `NoMemory` the name is as before.
     pub fn push(&mut self, byte: u8) -> Result<(), NoMemory>
         ensures { self.new ≡ (if is_ok result then self.old ++ byte ∷ [] else self.old) }
     {
-        match self.bytes.push(byte) {
-            Ok(()) => Ok(()),
-            Err(_) => Err(NoMemory),
-        }
+        self.bytes.push(byte)?;
+        Ok(())
     }
 
     /// The number of bytes.
@@ -113,10 +109,8 @@ impl Terms {
     pub fn push(&mut self, item: Term) -> Result<(), NoMemory>
         ensures { self.new ≡ (if is_ok result then self.old ++ item ∷ [] else self.old) }
     {
-        match self.items.push(item) {
-            Ok(()) => Ok(()),
-            Err(_) => Err(NoMemory),
-        }
+        self.items.push(item)?;
+        Ok(())
     }
 
     /// The number of terms.
@@ -178,10 +172,8 @@ impl Levels {
     pub fn push(&mut self, item: Level) -> Result<(), NoMemory>
         ensures { self.new ≡ (if is_ok result then self.old ++ item ∷ [] else self.old) }
     {
-        match self.items.push(item) {
-            Ok(()) => Ok(()),
-            Err(_) => Err(NoMemory),
-        }
+        self.items.push(item)?;
+        Ok(())
     }
 
     /// The number of levels.

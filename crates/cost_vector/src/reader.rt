@@ -7,6 +7,7 @@ ghost use Rattle.cost_vector.specs.Grammar.{is_letter, is_digit, is_name_byte, i
 ghost use Rattle.cost_vector.specs.Reading.{Reads, ReadsOr, OrFault, IsRun, IsNumberRun, LeadsTo, IsPartway, begins, is_byte, begins_with_max};
 
 use crate::cost_spec::{CostName, Level, Levels, Term, Terms};
+use choice_set::NoMemory;
 use std::alloc::Global;
 
 // Why a reader stopped.
@@ -14,6 +15,17 @@ use std::alloc::Global;
 pub enum Stop {
     Fault,
     NoMemory,
+}
+
+impl From<NoMemory> for Stop {
+    ghost use Rattle.std.specs.Prelude.{◌≡◌};
+    ghost use Rattle.cost_vector.specs.declared.reader.Stop.TheVariants as stop;
+
+    ghost from_gives = { λ _ e. e ≡ stop.NoMemory };
+
+    fn from(_error: NoMemory) -> Stop {
+        Stop::NoMemory
+    }
 }
 
 // From a to z.
@@ -191,10 +203,8 @@ impl<'a> Reader<'a> {
             return Err(Stop::Fault);
         }
         self.spaces();
-        match CostName::from_slice(alloc, word) {
-            Ok(name) => Ok(name),
-            Err(_) => Err(Stop::NoMemory),
-        }
+        let name = CostName::from_slice(alloc, word)?;
+        Ok(name)
     }
 
     // Reads a term.
@@ -219,9 +229,7 @@ impl<'a> Reader<'a> {
         let mut terms = Terms::new(alloc);
         loop {
             let term = self.term(alloc)?;
-            let Ok(()) = terms.push(term) else {
-                return Err(Stop::NoMemory);
-            };
+            terms.push(term)?;
             if terms.len() == 16 {
                 return Ok(terms);
             }
@@ -283,9 +291,7 @@ impl<'a> Reader<'a> {
         let mut levels = Levels::new(alloc);
         loop {
             let level = self.level(alloc)?;
-            let Ok(()) = levels.push(level) else {
-                return Err(Stop::NoMemory);
-            };
+            levels.push(level)?;
             if levels.len() == 16 {
                 return Ok(levels);
             }

@@ -4,7 +4,7 @@ ghost use Rattle.std.specs.List.{list_all, sum_by, fold};
 ghost use Rattle.std.specs.Ordering.{nat_cmp};
 ghost use Rattle.std.specs.Cmp.Lexicographic.{slice_cmp};
 ghost use Rattle.std.specs.declared.cmp.Ordering.TheVariants.{Less};
-ghost use Rattle.choice_set.specs.Sets.{has, with, is_rising};
+ghost use Rattle.lists.specs.Sets.{has, with, is_rising};
 ghost use Rattle.resolver_model.specs.Costs as model;
 ghost use Rattle.resolver_model.specs.Costs.{empty_table, with_amount, level_cost, cost_cmp};
 ghost use Rattle.cost_vector.specs.Rows.{levels_of, IsWhole};
@@ -107,16 +107,14 @@ fn cost_parts(
     ensures { IfOk result (λ parts. parts.items
         ≡ map (λ level. level_cost level set.now) (levels_of choices kinds.now amounts.now) ++ length set.now ∷ []) }
 {
-    let Ok(mut parts) = Vec::with_capacity(alloc, kinds.len() + 1) else {
-        return Err(NoMemory);
-    };
+    let mut parts = Vec::with_capacity(alloc, kinds.len() + 1)?;
     let mut rest = amounts;
     for greatest in kinds {
         let (row, others) = rest.split_at(choices as usize);
-        push(&mut parts, level_cost(*greatest, row, set))?;
+        parts.push(level_cost(*greatest, row, set))?;
         rest = others;
     }
-    push(&mut parts, set.len() as u64)?;
+    parts.push(set.len() as u64)?;
     Ok(parts)
 }
 
@@ -135,29 +133,15 @@ fn parts_with(
     requires fits { IsTrue (fits (parts_with (levels_of choices kinds.now amounts.now) parts.now choice)) }
     ensures { IfOk result (λ more. more.items ≡ parts_with (levels_of choices kinds.now amounts.now) parts.now choice) }
 {
-    let Ok(mut more) = Vec::with_capacity(alloc, parts.len()) else {
-        return Err(NoMemory);
-    };
+    let mut more = Vec::with_capacity(alloc, parts.len())?;
     let mut rest = amounts;
     for (place, greatest) in kinds.iter().enumerate() {
         let (row, others) = rest.split_at(choices as usize);
-        push(
-            &mut more,
-            part_with(*greatest, parts[place], row[choice as usize]),
-        )?;
+        more.push(part_with(*greatest, parts[place], row[choice as usize]))?;
         rest = others;
     }
-    push(&mut more, parts[kinds.len()] + 1)?;
+    more.push(parts[kinds.len()] + 1)?;
     Ok(more)
-}
-
-fn push(parts: &mut Vec<u64>, part: u64) -> Result<(), NoMemory>
-    ensures { OnOk result (parts.new.items ≡ parts.old.items ++ part ∷ []) }
-{
-    match parts.push(part) {
-        Ok(()) => Ok(()),
-        Err(_) => Err(NoMemory),
-    }
 }
 
 impl CostTable {
@@ -169,12 +153,8 @@ impl CostTable {
         let Some(count) = greatest.len().checked_mul(choices as usize) else {
             return Err(NoMemory);
         };
-        let Ok(kinds) = Vec::from_slice(alloc, greatest) else {
-            return Err(NoMemory);
-        };
-        let Ok(amounts) = vec![in alloc; 0u32; count] else {
-            return Err(NoMemory);
-        };
+        let kinds = Vec::from_slice(alloc, greatest)?;
+        let amounts = vec![in alloc; 0u32; count]?;
         Ok(CostTable {
             kinds,
             amounts,

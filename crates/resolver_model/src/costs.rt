@@ -28,10 +28,8 @@ impl Cost {
     pub fn from_parts(alloc: Global, parts: &[u64]) -> Result<Cost, NoMemory>
         ensures { IfOk result (λ cost. cost ≡ parts.now) }
     {
-        match Vec::from_slice(alloc, parts) {
-            Ok(numbers) => Ok(Cost { numbers }),
-            Err(_) => Err(NoMemory),
-        }
+        let numbers = Vec::from_slice(alloc, parts)?;
+        Ok(Cost { numbers })
     }
 
     /// The cost with these components. It keeps the list that it is given, and takes no memory.
@@ -67,9 +65,7 @@ impl Cost {
     pub fn copy(&self, alloc: Global) -> Result<Cost, NoMemory>
         ensures { IfOk result (λ cost. cost ≡ self.now) }
     {
-        match Vec::from_slice(alloc, self.numbers.as_slice()) {
-            Ok(numbers) => Ok(Cost { numbers }),
-            Err(_) => Err(NoMemory),
-        }
+        let numbers = Vec::from_slice(alloc, self.numbers.as_slice())?;
+        Ok(Cost { numbers })
     }
 }

@@ -43,10 +43,8 @@ impl Marks {
     pub fn push(&mut self, item: (u32, Mark)) -> Result<(), NoMemory>
         ensures { self.new ≡ (if is_ok result then self.old ++ item ∷ [] else self.old) }
     {
-        match self.items.push(item) {
-            Ok(()) => Ok(()),
-            Err(_) => Err(NoMemory),
-        }
+        self.items.push(item)?;
+        Ok(())
     }
 
     /// The number of pairs.
@@ -99,10 +97,8 @@ impl Caps {
     pub fn push(&mut self, item: (u32, u64)) -> Result<(), NoMemory>
         ensures { self.new ≡ (if is_ok result then self.old ++ item ∷ [] else self.old) }
     {
-        match self.items.push(item) {
-            Ok(()) => Ok(()),
-            Err(_) => Err(NoMemory),
-        }
+        self.items.push(item)?;
+        Ok(())
     }
 
     /// The number of pairs.

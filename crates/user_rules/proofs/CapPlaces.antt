@@ -1,6 +1,6 @@
 -- What a search finds among caps, and what an edit at that place does.
-use Rattle.std.proofs.Common.{◌≡◌, ℕ, zero, suc, ◌+◌, ◌-◌, ◌<◌, ◌≤◌, List, [], ◌∷◌, length, get_or, set, Some, None, Result, Ok, Err, IfOk, IfErr, true, false, nat_lt, nat_eq, refl, sym, ap, subst, arith}
-use Rattle.std.specs.List.{insert, remove, filter, find}
+use Rattle.std.proofs.Common.{◌≡◌, ℕ, zero, suc, ◌+◌, ◌-◌, ◌<◌, ◌≤◌, List, [], ◌∷◌, length, get_or, set, Some, None, Result, Ok, Err, IfOk, IfErr, false, nat_lt, nat_eq, refl, sym, ap, subst, arith}
+use Rattle.std.specs.List.{insert, remove, find}
 use Rattle.std.specs.Option.{option_map}
 use Rattle.std.specs.List.Sorted.{IsSearchInRange, IsBinarySearchResult, IsNonDecreasingBy}
 use Rattle.std.specs.Ordering.{nat_cmp, ordering_index}
@@ -10,7 +10,7 @@ use Rattle.std.proofs.lemmas.List.Edits.{length-insert, length-remove, get_or-in
 use Rattle.std.proofs.lemmas.Bool.{lt-ltb, le-ltb, ne_eqb, eq-eqb}
 use Rattle.std.proofs.lemmas.Bool.Decides.{nat_tests}
 use Rattle.std.proofs.lemmas.Grind.{common_steps}
-use Rattle.resolver_model.specs.Rules.{Cap, cap, with_cap, without_cap, caps_with, cap_of, set_cap, Rules}
+use Rattle.resolver_model.specs.Rules.{Cap, with_cap, without_cap, cap_of, Rules}
 use Rattle.user_rules.specs.CapOrder.{level_at, RisesByLevel, IsAt, IsGapFor}
 
 module _ (l : List Cap) (rises : RisesByLevel l) (k : ℕ) where

@@ -1,13 +1,14 @@
 -- The marks of two rising sets, taken from the front.
-use Rattle.std.proofs.Common.{◌≡◌, ℕ, ◌<◌, List, [], ◌∷◌, Bool, true, false, cond, map, length, nat_lt, nat_eq, inl, inr, refl, sym, ap, ◌∙◌, arith}
+use Rattle.std.proofs.Common.{◌≡◌, ℕ, ◌<◌, List, [], ◌∷◌, Bool, true, false, map, length, nat_lt, nat_eq, refl, ap, arith}
 use Rattle.std.specs.List.{list_all}
 use Rattle.std.proofs.lemmas.List.{nil_from_length}
 use Rattle.std.proofs.lemmas.Bool.{and_from, and_parts, lt-ltb, le-ltb, ltb-true, eq-eqb, ne_eqb}
-use Rattle.choice_set.specs.Sets.{has, with, union, is_rising}
-use Rattle.choice_set.proofs.Rising.{list_all-with, list_all_weaker}
+use Rattle.lists.proofs.Tests.{list_all_weaker}
+use Rattle.lists.proofs.With.{list_all-union}
+use Rattle.lists.specs.Sets.{has, with, union, is_rising}
 use Rattle.resolver_model.specs.Rules.{Rules, mark_of}
 use Rattle.resolver_model.specs.declared.marks.Mark.{Mark}
-use Rattle.resolver_model.specs.declared.marks.Mark.TheVariants.{Free, Approved, Rejected}
+use Rattle.resolver_model.specs.declared.marks.Mark.TheVariants.{Approved, Rejected}
 use Rattle.user_rules.specs.Merging.{marks_in}
 
 abbrev pub rules_of : List ℕ → List ℕ → Rules
@@ -36,12 +37,6 @@ union-second x y xs ys lt h =
     let not_below : nat_lt x y ≡ false = le-ltb x y (omega arith) in
     let apart : nat_eq x y ≡ false = ne_eqb x y (λ e. omega arith) in
     rw (not_below, apart) (union-first y (x ∷ xs) ys h)
-
-list_all-union : (p : ℕ → Bool) (xs ys : List ℕ) → list_all p xs ≡ true → list_all p ys ≡ true → list_all p (union xs ys) ≡ true
-list_all-union p xs [] h k = h
-list_all-union p xs (y ∷ ys) h k =
-    let parts = and_parts (p y) (list_all p ys) k in
-    list_all-union p (with xs y) ys (list_all-with p xs y h parts.0) parts.1
 
 -- the mark of a choice above x is the same without x
 mark_above : (x c : ℕ) (xs : List ℕ) → x < c → has (x ∷ xs) c ≡ has xs c

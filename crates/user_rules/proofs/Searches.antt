@@ -1,20 +1,15 @@
 -- What a search through a set of choices finds.
-use Rattle.std.proofs.Common.{◌≡◌, ℕ, zero, suc, ◌<◌, ◌≤◌, min, List, [], ◌∷◌, length, get_or, Option, Some, None, Result, Ok, Err, is_ok, Bool, true, false, not, ◌&&◌, ◌||◌, ◌⊎◌, cond, nat_lt, nat_eq, MatchOption, inl, inr, subst, refl, sym, ap, arith}
+use Rattle.std.proofs.Common.{◌≡◌, ℕ, suc, ◌<◌, ◌≤◌, min, List, [], ◌∷◌, length, get_or, Option, Some, None, Result, Ok, Err, is_ok, Bool, true, false, not, ◌&&◌, ◌⊎◌, cond, nat_lt, nat_eq, MatchOption, inl, inr, subst, refl, sym, arith}
 use Rattle.std.specs.List.{find, list_any, list_all}
 use Rattle.std.specs.Option.{option_map}
 use Rattle.std.specs.List.Sorted.{IsBinarySearchResult}
 use Rattle.std.specs.Ordering.{nat_cmp}
 use Rattle.std.proofs.lemmas.List.Sorted.{searched}
-use Rattle.std.proofs.lemmas.Bool.{and_from, and_parts, or_left, or_right, or_cases, or_from, eq-eqb, ne_eqb, eqb-true, ltb-true, cases_lt, not-true, not_from_false, false_from_ne_true, both_ways, and_right as and_right_false}
-use Rattle.choice_set.specs.Sets.{has, is_rising}
-use Rattle.choice_set.proofs.Rising.{rising_upto}
+use Rattle.std.proofs.lemmas.Bool.{and_from, and_parts, or_left, or_right, or_cases, or_from, eq-eqb, ne_eqb, eqb-true, ltb-true, cases_lt, false_from_ne_true, both_ways, and_right as and_right_false}
+use Rattle.lists.proofs.Sets.{has_at, rising_upto}
+use Rattle.lists.specs.Sets.{has, is_rising}
 use Rattle.resolver_model.specs.Rules.{Rules, Cap, is_against, IsLeastAgainst, is_under, is_over, IsLeastOver}
 use Rattle.user_rules.specs.CapOrder.{level_at, RisesByLevel}
-
-has-at : (xs : List ℕ) (c i : ℕ) → i < length xs → get_or xs i 0 ≡ c → has xs c ≡ true
-has-at [] c i lt e = absurd (omega arith)
-has-at (x ∷ xs) c zero lt e = or_left (nat_eq x c) (has xs c) (eq-eqb x c e)
-has-at (x ∷ xs) c (suc i) lt e = or_right (nat_eq x c) (has xs c) (has-at xs c i (omega arith) e)
 
 has-nowhere : (xs : List ℕ) (c : ℕ) → ((i : ℕ) → i < length xs → get_or xs i 0 ≡ c → ⊥) → has xs c ≡ false
 has-nowhere [] c never = refl
@@ -25,7 +20,7 @@ pub has-searched : (xs ys : List ℕ) (c : ℕ) (r : Result ℕ ℕ) → xs ≡ 
 has-searched xs ys c (Ok i) e h found =
     let rises : is_rising xs ≡ true = rw e h in
     let at = searched xs c (Ok i) found (rising_upto xs rises) in
-    rw (sym e) (sym (has-at xs c i at.0 at.1))
+    rw (sym e) (sym (has_at xs c i at.0 at.1))
 has-searched xs ys c (Err i) e h found =
     let rises : is_rising xs ≡ true = rw e h in
     let at = searched xs c (Err i) found (rising_upto xs rises) in

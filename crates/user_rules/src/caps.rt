@@ -29,10 +29,10 @@ pub fn set_cap(caps: &mut Vec<(u32, u64)>, level: u32, most: Option<u64>) -> Res
             caps.remove(place);
             Ok(())
         }
-        (Err(place), Some(most)) => match caps.insert(place, (level, most)) {
-            Ok(()) => Ok(()),
-            Err(_) => Err(NoMemory),
-        },
+        (Err(place), Some(most)) => {
+            caps.insert(place, (level, most))?;
+            Ok(())
+        }
         (Err(_), None) => Ok(()),
     }
 }

@@ -1,7 +1,7 @@
 // The choices of two sets in one rising order, each with its mark.
 ghost use Rattle.std.specs.Prelude.{◌≡◌, IsTrue};
 ghost use Rattle.std.specs.Iterator.{YieldsFirst, item_count};
-ghost use Rattle.choice_set.specs.Sets.{is_rising};
+ghost use Rattle.lists.specs.Sets.{is_rising};
 ghost use Rattle.user_rules.specs.Merging.{marks_in};
 
 use resolver_model::Mark;

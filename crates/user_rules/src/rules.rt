@@ -2,7 +2,7 @@
 ghost use Rattle.std.specs.Prelude.{◌≡◌, not, IsTrue};
 ghost use Rattle.std.specs.List.{find, list_all};
 ghost use Rattle.std.specs.Option.{option_map};
-ghost use Rattle.choice_set.specs.Sets.{has, is_rising, is_subset, is_disjoint};
+ghost use Rattle.lists.specs.Sets.{has, is_rising, is_subset, is_disjoint};
 ghost use Rattle.resolver_model.specs.Rules as model;
 
 use crate::caps::{is_under, place_of, set_cap};
@@ -100,10 +100,8 @@ impl Rules {
     pub fn caps(&self, alloc: Global) -> Result<Vec<(u32, u64)>, NoMemory>
         ensures { IfOk result (λ list. list.items ≡ self.now.caps) }
     {
-        match Vec::from_slice(alloc, self.caps.as_slice()) {
-            Ok(list) => Ok(list),
-            Err(_) => Err(NoMemory),
-        }
+        let list = Vec::from_slice(alloc, self.caps.as_slice())?;
+        Ok(list)
     }
 
     /// Whether a set with the given cost keeps the rules: it has every approved choice and no rejected one, and no part
@@ -146,10 +144,8 @@ impl Rules {
             approved: self.approved.as_slice(),
             rejected: self.rejected.as_slice(),
         };
-        match marked.collect(alloc) {
-            Ok(list) => Ok(list),
-            Err(_) => Err(NoMemory),
-        }
+        let list = marked.collect(alloc)?;
+        Ok(list)
     }
 
     /// The choices that each solution has to have.

@@ -1,6 +1,6 @@
 use Rattle.std.proofs.Common.{◌≡◌, ◌≤◌, length, arith, ap}
+use Rattle.lists.proofs.Sets.{length-rising}
 use Rattle.resolver_model.specs.Costs.{Table}
-use Rattle.choice_set.proofs.Rising.{length-rising}
 use Rattle.cost_vector.proofs.table.CostTable.cost.Goals as goal
 
 pub cost_parts-requires-clause-few : goal.cost_parts-requires-clause-few

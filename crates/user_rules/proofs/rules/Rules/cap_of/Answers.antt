@@ -1,4 +1,4 @@
-use Rattle.std.proofs.Common.{◌≡◌, ap, sym, Some, ◌∙◌}
+use Rattle.std.proofs.Common.{ap, sym, Some, ◌∙◌}
 use Rattle.std.proofs.lemmas.List.{get_or_default}
 use Rattle.resolver_model.specs.Rules.{Cap}
 use Rattle.user_rules.specs.CapOrder.{IsAt, IsGapFor}

@@ -1,7 +1,7 @@
-use Rattle.std.proofs.Common.{◌≡◌, ap, sym, ◌∙◌, min}
-use Rattle.resolver_model.specs.Rules.{Rules, IsLeastAgainst}
+use Rattle.std.proofs.Common.{sym, ◌∙◌}
+use Rattle.lists.specs.Sets.{has}
+use Rattle.resolver_model.specs.Rules.{Rules}
 use Rattle.user_rules.proofs.Searches.{first_from, none_from, match_from, outside, least_against-both, least_against-missing, least_against-there}
-use Rattle.choice_set.specs.Sets.{has}
 use Rattle.user_rules.proofs.rules.Rules.first_against.Goals as goal
 
 pub returns-in-Some-Some : goal.returns-in-Some-Some

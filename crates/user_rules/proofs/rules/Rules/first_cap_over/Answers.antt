@@ -1,5 +1,3 @@
-use Rattle.std.proofs.Common.{◌≡◌, ap, sym, subst, ℕ, Option, MatchOption, ◌∙◌}
-use Rattle.resolver_model.specs.Rules.{Cap, Rules, is_over, IsLeastOver}
 use Rattle.user_rules.proofs.Searches.{least_over_found}
 use Rattle.user_rules.proofs.rules.Rules.first_cap_over.Goals as goal
 
