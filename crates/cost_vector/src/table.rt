@@ -248,69 +248,43 @@ mod tests {
     use super::*;
     use std::test::Fail;
 
-    // Nine versions and three dependencies; the choices 0, 3 and 7 are removals.
-    fn removals(alloc: Global, greatest: bool) -> Result<CostTable, NoMemory> {
-        let mut table = CostTable::new(alloc, &[greatest], 12)?;
-        if table.levels() == 1 && table.choices() == 12 {
-            table.set(0, 0, 1);
-            table.set(0, 3, 1);
-            table.set(0, 7, 1);
+    // Twelve choices, of which 3 and 7 are removals; one level adds, and one takes the greatest amount.
+    fn removals(alloc: Global) -> Result<CostTable, NoMemory>
+        ensures { IfOk result (λ table. (table.choices ≡ 12) × (length table.levels ≡ 2)) }
+    {
+        let mut table = CostTable::new(alloc, &[false, true], 12)?;
+        for level in 0..2usize {
+            table.set(level, 3, 1);
+            table.set(level, 7, 1);
         }
         Ok(table)
     }
 
-    #[test]
-    fn levels_add_or_take_the_greatest(rt: HostRuntime) -> Result<(), Fail> {
-        for (greatest, wanted) in [(false, [2, 2]), (true, [1, 2])] {
-            let table = removals(rt.alloc(), greatest)?;
-            assert_eq!(rt; table.levels(), 1);
-            assert_eq!(rt; table.choices(), 12);
-            let set = ChoiceSet::from_list(rt.alloc(), &[0, 7])?;
-            let cost = table.cost(rt.alloc(), &set)?;
-            assert_eq!(rt; cost.parts(), wanted.as_slice());
-        }
-        Ok(())
+    // The cost of the set with the choices 3 and 7.
+    fn both(alloc: Global, table: &CostTable) -> Result<Cost, NoMemory>
+        requires { table.now.choices ≡ 12 }
+    {
+        let set = ChoiceSet::from_list(alloc, &[3, 7])?;
+        table.cost(alloc, &set)
     }
 
-    // The cost of a set with the choice 7 too, from the cost of the set.
-    fn cost_with_seven(alloc: Global, table: &CostTable, set: &ChoiceSet) -> Result<Cost, NoMemory>
-        requires members { IsTrue (list_all (λ c. nat_lt c table.now.choices) set.now) }
-        requires choice { 7 < table.now.choices }
-        requires apart { IsFalse (has set.now 7) }
+    // The cost of the set with the choice 3, and the choice 7 coming in.
+    fn one_more(alloc: Global, table: &CostTable) -> Result<Cost, NoMemory>
+        requires { table.now.choices ≡ 12 }
     {
         table.costs_fit();
-        let _ = set.as_slice();
-        let cost = table.cost(alloc, set)?;
+        let set = ChoiceSet::from_list(alloc, &[3])?;
+        let cost = table.cost(alloc, &set)?;
         table.add(alloc, &cost, 7)
     }
 
     #[test]
-    fn a_choice_comes_in(rt: HostRuntime) -> Result<(), Fail> {
-        for (greatest, wanted) in [(false, [2, 2]), (true, [1, 2])] {
-            let table = removals(rt.alloc(), greatest)?;
-            assert_eq!(rt; table.choices(), 12);
-            let set = ChoiceSet::from_list(rt.alloc(), &[0])?;
-            let more = cost_with_seven(rt.alloc(), &table, &set)?;
-            assert_eq!(rt; more.parts(), wanted.as_slice());
-        }
-        Ok(())
-    }
-
-    #[test]
-    fn costs_are_ordered(rt: HostRuntime) -> Result<(), Fail> {
-        let cases = [
-            ([0, 0, 1], [0, 1, 1], Ordering::Less),
-            ([1, 0, 2], [0, 9, 9], Ordering::Greater),
-            ([0, 1, 1], [0, 1, 1], Ordering::Equal),
-            ([0, 0, 2], [0, 1, 1], Ordering::Less),
-        ];
-        for (left, right, wanted) in cases {
-            let left = Cost::from_parts(rt.alloc(), left.as_slice())?;
-            let right = Cost::from_parts(rt.alloc(), right.as_slice())?.copy(rt.alloc())?;
-            assert_eq!(rt; compare(&left, &right), wanted);
-            assert_eq!(rt; left.len(), 3);
-            assert_eq!(rt; left.at(2), left.parts()[2]);
-        }
+    fn levels_add_or_take_the_greatest(rt: HostRuntime) -> Result<(), Fail> {
+        let table = removals(rt.alloc())?;
+        let cost = both(rt.alloc(), &table)?;
+        assert!(rt; cost.parts() == [2, 1, 2].as_slice());
+        let more = one_more(rt.alloc(), &table)?;
+        assert!(rt; compare(&more, &cost) == Ordering::Equal);
         Ok(())
     }
 }

@@ -23,43 +23,50 @@ pub use node::Node;
 #[cfg(test)]
 mod tests {
     use super::*;
+    use std::alloc::Global;
     use std::test::Fail;
 
-    #[test]
-    fn lists_and_costs(rt: HostRuntime) -> Result<(), Fail> {
-        let alloc = rt.alloc();
-        let mut numbers = Vec::new(alloc);
-        numbers.push(7)?;
-        numbers.push(0)?;
-        numbers.push(2)?;
-        let cost = Cost::from_vec(numbers);
-        assert_eq!(rt; cost.len(), 3);
-        assert_eq!(rt; cost.at(0), 7);
-        assert_eq!(rt; cost.copy(alloc)?.parts(), [7, 0, 2].as_slice());
-        assert_eq!(rt;
-            Cost::from_parts(alloc, &[1, 5])?.parts(),
-            [1, 5].as_slice()
-        );
+    // Whether the parts of a cost are read as they were given.
+    fn cost_is_kept(alloc: Global) -> Result<bool, NoMemory> {
+        let cost = Cost::from_parts(alloc, &[7, 0, 2])?;
+        if cost.len() != 3 || cost.at(0) != 7 {
+            return Ok(false);
+        }
+        let numbers = Vec::from_slice(alloc, cost.copy(alloc)?.parts())?;
+        Ok(Cost::from_vec(numbers).parts() == [7, 0, 2].as_slice())
+    }
+
+    // Whether marks and caps are read as they were given.
+    fn rules_are_kept(alloc: Global) -> Result<bool, NoMemory> {
         let mut marks = Marks::new(alloc);
-        marks.push((3, Mark::Approved))?;
         marks.push((8, Mark::Rejected))?;
-        assert_eq!(rt; marks.len(), 2);
-        assert_eq!(rt; *marks.at(1), (8, Mark::Rejected));
-        assert_eq!(rt; marks.as_slice().first(), Some(&(3, Mark::Approved)));
         let mut caps = Caps::new(alloc);
-        caps.push((0, 4))?;
         caps.push((2, 9))?;
-        assert_eq!(rt; caps.len(), 2);
-        assert_eq!(rt; *caps.at(1), (2, 9));
-        assert_eq!(rt; caps.as_slice().first(), Some(&(0, 4)));
-        let mut lines = Lines::new(alloc);
-        lines.push(Line {
+        if marks.len() != 1 || caps.len() != 1 {
+            return Ok(false);
+        }
+        Ok(*marks.at(0) == (8, Mark::Rejected) && *caps.at(0) == (2, 9))
+    }
+
+    // Whether a line is read as it was given.
+    fn line_is_kept(alloc: Global) -> Result<bool, NoMemory> {
+        let line = Line {
             set: ChoiceSet::from_list(alloc, &[1, 6])?,
             bound: Bound::Given,
-        })?;
-        assert_eq!(rt; lines.len(), 1);
-        assert_eq!(rt; lines.at(0).set.as_slice(), [1, 6].as_slice());
-        assert_eq!(rt; lines.as_slice().len(), 1);
+        };
+        let mut lines = Lines::new(alloc);
+        lines.push(line.copy(alloc)?)?;
+        if lines.len() != 1 || lines.as_slice().len() != 1 {
+            return Ok(false);
+        }
+        Ok(lines.at(0).set.at(1) == 6)
+    }
+
+    #[test]
+    fn items_are_kept(rt: HostRuntime) -> Result<(), Fail> {
+        assert!(rt; cost_is_kept(rt.alloc())?);
+        assert!(rt; rules_are_kept(rt.alloc())?);
+        assert!(rt; line_is_kept(rt.alloc())?);
         Ok(())
     }
 }

@@ -250,80 +250,48 @@ mod tests {
     use super::*;
     use std::test::Fail;
 
-    // Choice 2 is approved, 5 and 7 are rejected; level 0 may have 3 at most, and level 2 may have 1.
+    // Choice 2 is approved, and 7 is rejected; level 1 may have 3 at most.
     fn some_rules(alloc: Global) -> Result<Rules, NoMemory> {
         let mut rules = Rules::new(alloc);
+        rules.set(alloc, 7, Mark::Approved)?;
         rules.set(alloc, 7, Mark::Rejected)?;
-        rules.set(alloc, 5, Mark::Approved)?;
         rules.set(alloc, 2, Mark::Approved)?;
-        rules.set(alloc, 5, Mark::Rejected)?;
-        rules.cap(2, Some(4))?;
-        rules.cap(0, Some(3))?;
         rules.cap(1, Some(9))?;
-        rules.cap(2, Some(1))?;
-        rules.cap(1, None)?;
+        rules.cap(1, Some(3))?;
         Ok(rules)
     }
 
-    #[test]
-    fn sets_are_judged(rt: HostRuntime) -> Result<(), Fail> {
-        let rules = some_rules(rt.alloc())?;
-        let cases = [
-            ([1, 2], [3, 0, 1], true, None, None),
-            ([1, 2], [4, 0, 2], false, None, Some(0)),
-            ([1, 2], [3, 100, 2], false, None, Some(2)),
-            ([2, 5], [0, 0, 0], false, Some(5), None),
-            ([5, 7], [0, 0, 0], false, Some(2), None),
-            ([2, 7], [0, 0, 0], false, Some(7), None),
-        ];
-        for (set, parts, keeps, against, over) in cases {
-            let set = ordered(rt.alloc(), set)?;
-            assert_eq!(rt; rules.keeps(&set, parts.as_slice()), keeps);
-            assert_eq!(rt; rules.first_against(&set), against);
-            assert_eq!(rt; rules.first_cap_over(parts.as_slice()), over);
+    // Whether a set that has both choices is judged as the two rules say.
+    fn sets_are_judged(alloc: Global, rules: &Rules) -> Result<bool, NoMemory> {
+        let both = ChoiceSet::from_list(alloc, &[2, 7])?;
+        if rules.keeps(&both, &[0, 3]) || rules.first_against(&both) != Some(7) {
+            return Ok(false);
         }
-        Ok(())
+        let one = ChoiceSet::from_list(alloc, &[2])?;
+        if rules.first_against(&one) != None || rules.first_cap_over(&[0, 4]) != Some(1) {
+            return Ok(false);
+        }
+        Ok(rules.keeps(&one, &[0, 3]))
     }
 
-    // The set of two choices.
-    fn ordered(alloc: Global, set: [u32; 2]) -> Result<ChoiceSet, NoMemory> {
-        ChoiceSet::empty(alloc)
-            .with(alloc, set[0])?
-            .with(alloc, set[1])
-    }
-
-    #[test]
-    fn rules_are_listed(rt: HostRuntime) -> Result<(), Fail> {
-        let rules = some_rules(rt.alloc())?;
-        let again = rules.copy(rt.alloc())?;
-        let marked = again.marked(rt.alloc())?;
-        assert_eq!(rt;
-            marked.as_slice(),
-            [
-                (2, Mark::Approved),
-                (5, Mark::Rejected),
-                (7, Mark::Rejected)
-            ]
-            .as_slice()
-        );
-        let caps = again.caps(rt.alloc())?;
-        assert_eq!(rt; caps.as_slice(), [(0, 3), (2, 1)].as_slice());
-        for (choice, mark) in [(2, Mark::Approved), (5, Mark::Rejected), (6, Mark::Free)] {
-            assert_eq!(rt; rules.mark_of(choice), mark);
+    // Whether the rules are listed as they were set.
+    fn rules_are_listed(alloc: Global, rules: &Rules) -> Result<bool, NoMemory> {
+        let marked = rules.marked(alloc)?;
+        if marked.as_slice() != [(2, Mark::Approved), (7, Mark::Rejected)].as_slice() {
+            return Ok(false);
         }
-        for (level, most) in [(0, Some(3)), (1, None), (2, Some(1))] {
-            assert_eq!(rt; rules.cap_of(level), most);
+        let caps = rules.caps(alloc)?;
+        if caps.as_slice() != rules.lent_caps() || rules.cap_of(1) != Some(3) {
+            return Ok(false);
         }
-        Ok(())
+        Ok(rules.mark_of(7) == Mark::Rejected && rules.approved().len() == rules.rejected().len())
     }
 
     #[test]
-    fn a_mark_is_freed(rt: HostRuntime) -> Result<(), Fail> {
-        let mut rules = some_rules(rt.alloc())?;
-        rules.set(rt.alloc(), 2, Mark::Free)?;
-        assert_eq!(rt; rules.mark_of(2), Mark::Free);
-        let marked = rules.marked(rt.alloc())?;
-        assert_eq!(rt; marked.len(), 2);
+    fn rules_are_kept(rt: HostRuntime) -> Result<(), Fail> {
+        let rules = some_rules(rt.alloc())?.copy(rt.alloc())?;
+        assert!(rt; sets_are_judged(rt.alloc(), &rules)?);
+        assert!(rt; rules_are_listed(rt.alloc(), &rules)?);
         Ok(())
     }
 }
