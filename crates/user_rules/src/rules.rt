@@ -7,8 +7,7 @@ ghost use Rattle.resolver_model.specs.Rules as model;
 
 use crate::caps::{is_under, place_of, set_cap};
 use crate::marked::Marked;
-use choice_set::{ChoiceSet, NoMemory};
-use resolver_model::Mark;
+use resolver_model::{ChoiceSet, Mark, NoMemory};
 use std::alloc::Global;
 use std::marker::Model;
 
