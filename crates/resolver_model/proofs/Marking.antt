@@ -1,15 +1,14 @@
 -- What a mark leaves of rules: they stay well formed, and the marked choices stay choices. What a session may be made for.
-use Rattle.std.proofs.Common.{◌≡◌, ◌<◌, ◌≤◌, ◌+◌, ℕ, List, [], ◌∷◌, Bool, true, false, not, ◌&&◌, refl, sym, ◌∙◌, nat_lt, nat_eq, length, eq-eqb, arith}
+use Rattle.std.proofs.Common.{◌≡◌, ◌≤◌, ◌+◌, ℕ, Bool, true, not, refl, nat_lt, nat_eq, length, arith}
 use Rattle.std.specs.List.{list_all}
-use Rattle.std.proofs.lemmas.Bool.{and_from, and_parts, not-true, not_from_false, false_from_ne_true}
-use Rattle.lists.specs.Sets.{is_rising, has, without, is_disjoint}
+use Rattle.std.proofs.lemmas.Bool.{and_from, not_from_false}
+use Rattle.lists.specs.Sets.{is_rising, has, without}
 use Rattle.lists.proofs.Tests.{list_all-filter}
 use Rattle.lists.proofs.Sets.{is_rising-filter}
 use Rattle.lists.proofs.With.{is_rising-with, list_all-with, is_disjoint-with, has-without_own, is_disjoint-without_first, is_disjoint-without_second}
 use Rattle.resolver_model.specs.declared.marks.Mark.{Mark}
 use Rattle.resolver_model.specs.declared.marks.Mark.TheVariants.{Free, Approved, Rejected}
-use Rattle.resolver_model.specs.Problems.{Problem, IsWellFormed, is_choice, is_choice_set, version_count, dependency_count}
-use Rattle.resolver_model.specs.Costs.{Table}
+use Rattle.resolver_model.specs.Problems.{IsWellFormed, is_choice, version_count, dependency_count}
 use Rattle.resolver_model.specs.Rules.{Rules, AreWellFormed, no_rules, set_mark}
 use Rattle.resolver_model.specs.Answers.{Setting}
 use Rattle.resolver_model.specs.Legal.{IsSetting}
