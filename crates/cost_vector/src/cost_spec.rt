@@ -6,7 +6,7 @@ ghost use Rattle.cost_vector.specs.SpecEnds.{IsSpecEnd};
 ghost use Rattle.cost_vector.specs.declared.cost_spec.SpecEnd as SpecEnd;
 
 use crate::reader::{Reader, Stop, is_digit, is_letter, is_max, is_name_byte, number_at};
-use choice_set::NoMemory;
+use resolver_model::NoMemory;
 use std::alloc::Global;
 use std::marker::Model;
 

@@ -7,7 +7,7 @@ ghost use Rattle.cost_vector.specs.Grammar.{is_letter, is_digit, is_name_byte, i
 ghost use Rattle.cost_vector.specs.Reading.{Reads, ReadsOr, OrFault, IsRun, IsNumberRun, LeadsTo, IsPartway, begins, is_byte, begins_with_max};
 
 use crate::cost_spec::{CostName, Level, Levels, Term, Terms};
-use choice_set::NoMemory;
+use resolver_model::NoMemory;
 use std::alloc::Global;
 
 // Why a reader stopped.

@@ -10,8 +10,7 @@ ghost use Rattle.resolver_model.specs.Costs.{empty_table, with_amount, level_cos
 ghost use Rattle.cost_vector.specs.Rows.{levels_of, IsWhole};
 ghost use Rattle.cost_vector.specs.Additions.{part_with, parts_with, cost_with, fits};
 
-use choice_set::{ChoiceSet, NoMemory};
-use resolver_model::Cost;
+use resolver_model::{ChoiceSet, Cost, NoMemory};
 use std::alloc::Global;
 use std::cmp::Ordering;
 use std::marker::Model;

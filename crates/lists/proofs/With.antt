@@ -1,12 +1,12 @@
 -- A set with one more number, and the set with all of another.
-use Rattle.std.proofs.Common.{inl, inr, ◌≡◌, ◌⊎◌, ◌<◌, ℕ, List, [], ◌∷◌, ◌++◌, Bool, true, false, cond, ◌&&◌, ◌||◌, Some, refl, ap, sym, subst, ◌∙◌, arith, nat_lt, nat_eq, IsTrue}
+use Rattle.std.proofs.Common.{inl, inr, ◌≡◌, ◌⊎◌, ◌<◌, ℕ, List, [], ◌∷◌, ◌++◌, Bool, true, false, not, cond, ◌&&◌, ◌||◌, Some, refl, ap, sym, subst, ◌∙◌, arith, nat_lt, nat_eq, IsTrue}
 use Rattle.std.specs.List.{list_all, list_any, find}
-use Rattle.std.proofs.lemmas.Bool.{and_from, and_parts, or_cases, or_left, or_right, ltb-true, lt-ltb, eqb-true, false_from_ne_true}
+use Rattle.std.proofs.lemmas.Bool.{and_from, and_parts, or_cases, or_left, or_right, ltb-true, lt-ltb, eqb-true, false_from_ne_true, not-true}
 use Rattle.std.proofs.lemmas.Bool.Decides.{nat_tests}
-use Rattle.lists.specs.Sets.{is_rising, has, is_subset, is_disjoint, with, union}
+use Rattle.lists.specs.Sets.{is_rising, has, is_subset, is_disjoint, with, without, union}
 use Rattle.lists.proofs.Truth.{and_first, and_second, nat_eq-same}
-use Rattle.lists.proofs.Tests.{list_all_weaker, list_all-right}
-use Rattle.lists.proofs.Sets.{list_all-has, list_all-from_has, is_disjoint-at, is_disjoint-from_has}
+use Rattle.lists.proofs.Tests.{list_all_weaker, list_all-right, list_all-filter}
+use Rattle.lists.proofs.Sets.{list_all-has, list_all-from_has, is_disjoint-at, is_disjoint-from_has, has-filter_parts}
 
 -- ---- with
 
@@ -102,6 +102,22 @@ with-last (x ∷ xs) c ys h =
     let parts = and_parts (list_all (λ z. nat_lt x z) (xs ++ c ∷ ys)) _ h in
     let lt : nat_lt x c ≡ true = (and_parts _ _ (list_all-right (λ z. nat_lt x z) xs (c ∷ ys) parts.0)).0 in
     rw lt (ap (λ zs. x ∷ zs) (with-last xs c ys parts.1))
+
+-- ---- without
+
+pub has-without_own : (set : List ℕ) (c : ℕ) → has (without set c) c ≡ false
+has-without_own set c = false_from_ne_true _ (λ h. let parts = has-filter_parts (λ x. not (nat_eq x c)) set c h in let f : true ≡ false = sym (nat_eq-same c) ∙ not-true _ parts.0 in cc)
+
+pub is_disjoint-without_first : (xs ys : List ℕ) (c : ℕ) → is_disjoint xs ys ≡ true → is_disjoint (without xs c) ys ≡ true
+is_disjoint-without_first xs ys c h = list_all-filter (λ x. not (has ys x)) (λ x. not (nat_eq x c)) xs h
+
+pub is_disjoint-without_second : (xs ys : List ℕ) (c : ℕ) → is_disjoint xs ys ≡ true → is_disjoint xs (without ys c) ≡ true
+is_disjoint-without_second xs ys c h =
+    is_disjoint-from_has xs (without ys c) (λ x m. false_from_ne_true _ (λ t.
+    let there = (has-filter_parts (λ y. not (nat_eq y c)) ys x t).1 in
+    let gone = is_disjoint-at xs ys x h m in
+    let f : true ≡ false = sym there ∙ gone in
+    cc))
 
 -- ---- union
 

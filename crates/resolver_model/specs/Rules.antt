@@ -1,8 +1,8 @@
 -- The rules that a user sets: which choices are approved, which are rejected, and how dear a level of a cost may be.
-use Rattle.std.specs.Prelude.{◌≤◌, ℕ, Bool, not, ◌&&◌, ◌||◌, List, [], ◌∷◌, map, nat_lt, nat_le, ◌==◌, slice_index, IsTrue, Option, Some, None, if◌then◌else◌}
+use Rattle.std.specs.Prelude.{◌<◌, ◌≤◌, ℕ, Bool, not, ◌&&◌, ◌||◌, List, [], ◌∷◌, map, nat_lt, nat_le, ◌==◌, slice_index, slice_index_or, length, IsTrue, Option, Some, None, if◌then◌else◌}
 use Rattle.std.specs.List.{filter, find, list_any, list_all}
 use Rattle.std.specs.Option.{option_map}
-use Rattle.lists.specs.Sets.{has, with, without, union, is_subset, is_disjoint}
+use Rattle.lists.specs.Sets.{is_rising, has, with, without, union, is_subset, is_disjoint}
 use Rattle.resolver_model.specs.declared.marks.Mark.{Mark}
 use Rattle.resolver_model.specs.declared.marks.Mark.TheVariants.{Free, Approved, Rejected}
 
@@ -10,12 +10,26 @@ use Rattle.resolver_model.specs.declared.marks.Mark.TheVariants.{Free, Approved,
 abbrev pub Cap : Type 0
 Cap = ℕ × ℕ
 
--- The first two are choice sets, and no choice is in both. All other choices are free. The caps stand by rising level,
--- at most one for each.
+-- The choices that are approved, those that are rejected, and the caps. All other choices are free.
 pub record Rules : Type 0 where
   pub approved : List ℕ
   pub rejected : List ℕ
   pub caps : List Cap
+
+-- the level of the cap at a place
+abbrev pub level_at : List Cap → ℕ → ℕ
+level_at caps i = let c = slice_index_or caps i (0, 0) in c.0
+
+-- the levels rise, so no level has two caps
+abbrev pub RisesByLevel : List Cap → Type 0
+RisesByLevel caps = (i j : ℕ) → i < j → j < length caps → level_at caps i < level_at caps j
+
+-- What holds of all rules that a user sets: the marked choices rise, none is marked both ways, and the caps rise by level.
+pub record AreWellFormed (rules : Rules) : Type 0 where
+  pub approved : IsTrue (is_rising rules.approved)
+  pub rejected : IsTrue (is_rising rules.rejected)
+  pub apart : IsTrue (is_disjoint rules.approved rules.rejected)
+  pub caps : RisesByLevel rules.caps
 
 abbrev pub no_rules : Rules
 no_rules = record { approved = []; rejected = []; caps = [] }

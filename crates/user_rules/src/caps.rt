@@ -3,7 +3,7 @@ ghost use Rattle.std.specs.Prelude.{◌≡◌, ◌<◌, ◌≤◌, List, IfOk, I
 ghost use Rattle.resolver_model.specs.Rules.{Cap, caps_with, is_under};
 ghost use Rattle.user_rules.specs.CapOrder.{RisesByLevel, IsAt, IsGapFor};
 
-use choice_set::NoMemory;
+use resolver_model::NoMemory;
 
 // Where the cap on the level is, or where it would go.
 pub fn place_of(caps: &[(u32, u64)], level: u32) -> Result<usize, usize>

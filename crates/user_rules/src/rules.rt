@@ -7,8 +7,7 @@ ghost use Rattle.resolver_model.specs.Rules as model;
 
 use crate::caps::{is_under, place_of, set_cap};
 use crate::marked::Marked;
-use choice_set::{ChoiceSet, NoMemory};
-use resolver_model::Mark;
+use resolver_model::{ChoiceSet, Mark, NoMemory};
 use std::alloc::Global;
 use std::marker::Model;
 
@@ -23,13 +22,12 @@ pub struct Rules {
 
 impl Model for Rules {
     ghost use Rattle.resolver_model.specs.Rules as model;
-    ghost use Rattle.user_rules.specs.CapOrder.{RisesByLevel};
 
     ghost Value = { model.Rules };
 
     ghost view = { λ a. record { approved = a.approved; rejected = a.rejected; caps = a.caps.items } };
 
-    ghost invariant = { λ a. RisesByLevel a.caps.items };
+    ghost invariant = { λ a. model.AreWellFormed (record { approved = a.approved; rejected = a.rejected; caps = a.caps.items }) };
 }
 
 impl Rules {
@@ -52,17 +50,38 @@ impl Rules {
     pub fn set(&mut self, alloc: Global, choice: u32, mark: Mark) -> Result<(), NoMemory>
         ensures { self.new ≡ (if is_ok result then set_mark self.old choice mark else self.old) }
     {
-        let approved = match mark {
-            Mark::Approved => self.approved.with(alloc, choice)?,
-            _ => self.approved.without(alloc, choice)?,
-        };
-        let rejected = match mark {
-            Mark::Rejected => self.rejected.with(alloc, choice)?,
-            _ => self.rejected.without(alloc, choice)?,
-        };
+        let approved = self.approved_after(alloc, choice, mark)?;
+        let rejected = self.rejected_after(alloc, choice, mark)?;
         self.approved = approved;
         self.rejected = rejected;
         Ok(())
+    }
+
+    // What is approved once the choice has the mark.
+    fn approved_after(&self, alloc: Global, choice: u32, mark: Mark) -> Result<ChoiceSet, NoMemory>
+        ensures { IfOk result (λ set. set ≡ (set_mark self.now choice mark).approved) }
+    {
+        match mark {
+            Mark::Approved => self.approved.with(alloc, choice),
+            Mark::Free | Mark::Rejected => self.approved.without(alloc, choice),
+        }
+    }
+
+    // What is rejected once the choice has the mark.
+    fn rejected_after(&self, alloc: Global, choice: u32, mark: Mark) -> Result<ChoiceSet, NoMemory>
+        ensures { IfOk result (λ set. set ≡ (set_mark self.now choice mark).rejected) }
+    {
+        match mark {
+            Mark::Rejected => self.rejected.with(alloc, choice),
+            Mark::Free | Mark::Approved => self.rejected.without(alloc, choice),
+        }
+    }
+
+    /// Tells what holds of all rules: the marked choices rise, none is marked both ways, and the caps rise by level.
+    pub fn are_well_formed(&self)
+        ensures { model.AreWellFormed self.now }
+    {
+        let _ = &self.caps;
     }
 
     /// The mark of a choice.

@@ -9,7 +9,7 @@ pub returns-in-Ok : goal.returns-in-Ok
 returns-in-Ok c =
     let at : IsAt c.self.inside.caps.items c.args.level c.in-Ok.place = rw (← c.deref.ensures.value) c.in-Ok.ensures.found in
     let read = get_or_default c.self.inside.caps.items c.in-Ok.place c.index.result.now (0, 0) at.in_range in
-    rw (← c.self.view_is) (ap (λ (cap : Cap). Some cap.1) (c.index.ensures ∙ read) ∙ sym (cap_of-at (record { approved = c.self.inside.approved; rejected = c.self.inside.rejected; caps = c.self.inside.caps.items }) c.args.level c.in-Ok.place c.self.invariant at))
+    rw (← c.self.view_is) (ap (λ (cap : Cap). Some cap.1) (c.index.ensures ∙ read) ∙ sym (cap_of-at (record { approved = c.self.inside.approved; rejected = c.self.inside.rejected; caps = c.self.inside.caps.items }) c.args.level c.in-Ok.place c.self.invariant.caps at))
 
 pub returns-in-Err : goal.returns-in-Err
 returns-in-Err c =
