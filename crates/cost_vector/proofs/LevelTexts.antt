@@ -1,14 +1,13 @@
 -- How far sums and levels can be read.
-use Rattle.std.proofs.Common.{◌≡◌, ℕ, zero, suc, ◌+◌, ◌<◌, ◌≤◌, List, [], ◌∷◌, ◌++◌, length, Bool, true, false, not, ◌&&◌, ◌||◌, cond, nat_eq, nat_le, Option, Some, None, is_some, refl, sym, ap, ◌∙◌, subst, inl, inr, ◌⊎◌, append_assoc, append-nil, arith}
+use Rattle.std.proofs.Common.{◌≡◌, ℕ, suc, List, [], ◌∷◌, ◌++◌, length, Bool, true, false, ◌&&◌, cond, nat_eq, nat_le, Option, Some, None, is_some, refl, sym, ap, ◌∙◌, inl, inr, ◌⊎◌, append_assoc, append-nil, arith}
 use Rattle.std.specs.List.{list_all}
 use Rattle.std.specs.Option.{option_map}
-use Rattle.std.proofs.lemmas.Bool.{and_from, and_parts, eqb-true, eqb-false, eq-eqb, ne_eqb, cases_Bool, both_ways, false_from_ne_true}
+use Rattle.std.proofs.lemmas.Bool.{and_from, and_parts, eqb-true, eqb-false, ne_eqb, cases_Bool, both_ways, false_from_ne_true}
 use Rattle.cost_vector.specs.declared.cost_spec.Term.{Term}
-use Rattle.cost_vector.specs.declared.cost_spec.Level.{Level}
 use Rattle.cost_vector.specs.Grammar.{parts, words, is_name_byte, is_max, is_name, term, only, if_test, word_of, name_of, term_of, all_of, join, listed, sum_of, has_no_word, is_max_alone, closed_in, closed_of, level, level_in, level_of}
-use Rattle.cost_vector.specs.Reading.{IsStart, IsStop, Reads, LeadsTo, IsRun, begins, is_byte, begins_with_max}
+use Rattle.cost_vector.specs.Reading.{IsStop, Reads, LeadsTo, IsRun, begins, is_byte, begins_with_max}
 use Rattle.cost_vector.proofs.Parts.{lacks, cut, cut_twice, parts-onto, parts-one, parts-at}
-use Rattle.cost_vector.proofs.Starts.{Lacks, lacks-front, lacks-append, lacks-start, is_some-option_map, listed-one, listed-none, listed-stop}
+use Rattle.cost_vector.proofs.Starts.{Lacks, lacks-append, lacks-start, is_some-option_map, listed-one, listed-none, listed-stop}
 use Rattle.cost_vector.proofs.Words.{blank, words-blank, words-none, words-more, words-one, words-at, word_of-blank, word_of-one, word_of-stop, lacks-from, lacks-parts, lacks-words, lacks-word_of}
 use Rattle.cost_vector.proofs.TermTexts.{term_of-blank, term_of-lacks, term_of-no_digit, not_name_with}
 

@@ -1,8 +1,8 @@
 -- The parts and words of a text that is put together.
-use Rattle.std.proofs.Common.{◌≡◌, ℕ, suc, ◌+◌, ◌-◌, ◌<◌, ◌≤◌, List, [], ◌∷◌, ◌++◌, length, Bool, true, false, not, ◌&&◌, ◌||◌, cond, nat_eq, nat_le, Option, Some, None, is_some, refl, sym, ap, ◌∙◌, subst, inl, inr, ◌⊎◌, append_assoc, append-nil, arith}
-use Rattle.std.specs.List.{slice_split, onto_first, filter, list_all, All}
-use Rattle.std.proofs.lemmas.Bool.{and_from, and_parts, or_parts, or_cases, or_from, eq-eqb, ne_eqb, eqb-true, eqb-false, both_ways, not-true}
-use Rattle.cost_vector.specs.Grammar.{parts, words, is_empty, only}
+use Rattle.std.proofs.Common.{◌≡◌, ℕ, List, [], ◌∷◌, ◌++◌, Bool, true, false, not, nat_eq, refl, append-nil}
+use Rattle.std.specs.List.{list_all}
+use Rattle.std.proofs.lemmas.Bool.{and_parts, eq-eqb, not-true}
+use Rattle.cost_vector.specs.Grammar.{parts}
 
 -- no byte of the text is c
 abbrev pub lacks : ℕ → List ℕ → Bool

@@ -1,8 +1,8 @@
 -- How far each call of the reader reads, in the words of its steps.
-use Rattle.std.proofs.Common.{◌≡◌, ℕ, zero, suc, ◌+◌, ◌*◌, ◌-◌, ◌<◌, ◌≤◌, List, [], ◌∷◌, ◌++◌, length, take, drop, get_or, Bool, true, false, not, ◌&&◌, ◌||◌, cond, nat_eq, nat_le, Option, Some, None, is_some, Result, Ok, Err, refl, sym, ap, ◌∙◌, subst, inl, inr, ◌⊎◌, append_assoc, append-nil, arith}
-use Rattle.std.specs.List.{list_all, fold, prefix_len}
+use Rattle.std.proofs.Common.{◌≡◌, ℕ, suc, ◌+◌, ◌*◌, ◌-◌, ◌<◌, ◌≤◌, List, [], ◌∷◌, ◌++◌, length, take, drop, get_or, Bool, true, false, not, ◌&&◌, nat_eq, nat_le, Option, Some, None, is_some, Result, Ok, Err, refl, sym, ap, ◌∙◌, subst, inl, inr, append_assoc, append-nil, arith}
+use Rattle.std.specs.List.{list_all, prefix_len}
 use Rattle.std.specs.Option.{option_map}
-use Rattle.std.proofs.lemmas.Bool.{and_from, and_parts, and_left as and_false_left, and_right as and_false_right, eqb-true, eqb-false, eq-eqb, ne_eqb, leb-true, le-leb, lt-leb, cases_Bool, cases_lt, both_ways, not-true, not_from_false, not-false, false_from_ne_true}
+use Rattle.std.proofs.lemmas.Bool.{and_from, and_parts, eqb-true, eqb-false, leb-true, le-leb, cases_Bool, cases_lt, both_ways, not-true, false_from_ne_true}
 use Rattle.std.proofs.lemmas.List.{take_more, length-append, length-take-le, length-drop, take-append-drop, get_or-drop}
 use Rattle.std.proofs.Math.Seq.{take-append_seam, take-append-add}
 use Rattle.std.proofs.Math.Nat.{eq-or-lt_of_le, add-zero}
@@ -10,7 +10,7 @@ use Rattle.std.proofs.lemmas.List.Folds.{list_all-append}
 use Rattle.std.proofs.lemmas.List.Sums.{fold_push, prefix_len_is}
 use Rattle.cost_vector.specs.declared.cost_spec.Term.{Term}
 use Rattle.cost_vector.specs.declared.cost_spec.Level.{Level}
-use Rattle.cost_vector.specs.Grammar.{listed, is_letter, is_digit, is_name_byte, is_max, is_small, is_number, is_empty, decimal_value, name_of, term, term_of, sum_of, closed_of, level, level_of, spec_of}
+use Rattle.cost_vector.specs.Grammar.{listed, is_letter, is_digit, is_name_byte, is_max, is_small, is_number, is_empty, decimal_value, name_of, term, term_of, sum_of, closed_of, level, level_of}
 use Rattle.cost_vector.specs.declared.reader.Stop.{Stop}
 use Rattle.cost_vector.specs.declared.reader.Stop.TheVariants.{Fault, NoMemory}
 use Rattle.cost_vector.specs.Reading.{IsStart, IsStop, IsLongestStart, IsPartway, Reads, ReadsOr, OrFault, LeadsTo, IsRun, IsNumberRun, begins, is_byte, begins_with_max}

@@ -1,10 +1,10 @@
 -- What the list of amounts of a table shows of its levels.
-use Rattle.std.proofs.Common.{◌≡◌, ◌<◌, ◌≤◌, ◌+◌, ◌*◌, ◌^◌, ◌-◌, ◌∙◌, zero, suc, ℕ, Bool, true, false, List, [], ◌∷◌, ◌++◌, length, take, drop, set, map, replicate, get_or, refl, ap, sym, arith, length-drop, drop-cons, add-one, append_assoc}
-use Rattle.std.proofs.Math.Nat.{suc-mul, mul_comm, zero-mul}
+use Rattle.std.proofs.Common.{◌≡◌, ◌<◌, ◌≤◌, ◌+◌, ◌*◌, ◌-◌, ◌∙◌, zero, suc, ℕ, Bool, false, List, [], ◌∷◌, ◌++◌, length, take, drop, set, map, replicate, get_or, refl, ap, arith, length-drop, drop-cons, add-one, append_assoc}
+use Rattle.std.proofs.Math.Nat.{suc-mul, mul_comm}
 use Rattle.std.proofs.Math.Seq.{take-set-lt}
-use Rattle.std.proofs.lemmas.List.{take-replicate, drop-replicate, take-set-le, drop-set-lt, drop-set-add, length-take-le}
+use Rattle.std.proofs.lemmas.List.{take-replicate, drop-replicate, take-set-le, drop-set-lt, drop-set-add}
 use Rattle.std.proofs.lemmas.Nat.{mul-add-lt}
-use Rattle.resolver_model.specs.Costs.{Level, Table, empty_table, with_amount, no_level}
+use Rattle.resolver_model.specs.Costs.{Level, empty_table, with_amount}
 use Rattle.cost_vector.specs.Rows.{levels_of}
 
 pub length-levels_of : (n : ℕ) (kinds : List Bool) (amounts : List ℕ) → length (levels_of n kinds amounts) ≡ length kinds

@@ -1,17 +1,16 @@
 -- How far names and terms can be read.
-use Rattle.std.proofs.Common.{◌≡◌, ℕ, zero, suc, ◌+◌, ◌*◌, ◌-◌, ◌<◌, ◌≤◌, List, [], ◌∷◌, ◌++◌, length, Bool, true, false, not, ◌&&◌, ◌||◌, cond, nat_eq, nat_le, Option, Some, None, is_some, refl, sym, ap, ◌∙◌, subst, inl, inr, ◌⊎◌, append_assoc, append-nil, arith}
+use Rattle.std.proofs.Common.{◌≡◌, ℕ, ◌+◌, ◌*◌, ◌-◌, ◌≤◌, List, [], ◌∷◌, ◌++◌, length, true, false, not, ◌&&◌, nat_eq, nat_le, Option, Some, None, is_some, refl, sym, ap, ◌∙◌, inl, inr, append_assoc, append-nil, arith}
 use Rattle.std.specs.List.{list_all, fold}
 use Rattle.std.specs.Option.{option_map}
-use Rattle.std.proofs.lemmas.Bool.{and_from, and_parts, and_left as and_false_left, and_right as and_false_right, or_parts, eqb-true, eqb-false, eq-eqb, ne_eqb, leb-true, le-leb, lt-leb, cases_Bool, both_ways, not-true, not_from_true, not_from_false, false_from_ne_true}
+use Rattle.std.proofs.lemmas.Bool.{and_from, and_parts, and_right as and_false_right, eqb-true, eqb-false, eq-eqb, leb-true, le-leb, lt-leb, cases_Bool, both_ways, not_from_true, not_from_false, false_from_ne_true}
 use Rattle.std.proofs.lemmas.List.{length-append}
 use Rattle.std.proofs.lemmas.List.Folds.{list_all-append}
 use Rattle.std.proofs.lemmas.List.Sums.{fold-append}
-use Rattle.cost_vector.specs.declared.cost_spec.Term.{Term}
-use Rattle.cost_vector.specs.Grammar.{parts, words, is_empty, is_letter, is_digit, is_name_byte, is_max, is_name, is_small, is_number, decimal_value, only, word_of, name_of, number_of, term, times_name, term_in, term_of}
-use Rattle.cost_vector.specs.Reading.{IsStart, IsStop, Reads, LeadsTo, IsRun, IsNumberRun, begins, is_byte}
+use Rattle.cost_vector.specs.Grammar.{parts, is_empty, is_letter, is_digit, is_name_byte, is_max, is_name, is_small, is_number, decimal_value, word_of, name_of, number_of, term, times_name, term_in, term_of}
+use Rattle.cost_vector.specs.Reading.{IsStop, Reads, LeadsTo, IsRun, IsNumberRun, begins, is_byte}
 use Rattle.cost_vector.proofs.Parts.{lacks, cut, cut_twice, parts-onto, parts-one, parts-at}
-use Rattle.cost_vector.proofs.Starts.{Lacks, lacks-front, lacks-append, lacks-start, reads_behind, is_some-option_map}
-use Rattle.cost_vector.proofs.Words.{blank, word_of-blank, word_of-none, word_of-one, word_of-more, word_of-fails, word_of-stop, lacks-from, lacks-parts, lacks-words, lacks-word_of}
+use Rattle.cost_vector.proofs.Starts.{Lacks, lacks-append, is_some-option_map}
+use Rattle.cost_vector.proofs.Words.{blank, word_of-blank, word_of-one, word_of-more, word_of-fails, word_of-stop, lacks-from, lacks-parts, lacks-word_of}
 
 -- spaces in front change nothing
 pub name_of-blank : (s text : List ℕ) → blank s ≡ true → name_of (s ++ text) ≡ name_of text

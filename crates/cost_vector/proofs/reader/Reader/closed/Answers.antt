@@ -1,4 +1,3 @@
-use Rattle.std.proofs.Common.{None}
 use Rattle.std.proofs.lemmas.Result.{err_from_is_err_and}
 use Rattle.cost_vector.proofs.LevelTexts.{closed_fault}
 use Rattle.cost_vector.proofs.Readings.{or_fault, closed_open_end, closed_whole}

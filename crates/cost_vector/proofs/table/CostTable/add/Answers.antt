@@ -1,5 +1,5 @@
-use Rattle.std.proofs.Common.{rules, ◌≡◌, ◌+◌, ◌∙◌, length, arith, ap, sym}
-use Rattle.resolver_model.specs.Costs.{Table, cost}
+use Rattle.std.proofs.Common.{rules, ◌≡◌, ◌∙◌, length, arith, ap, sym}
+use Rattle.resolver_model.specs.Costs.{Table}
 use Rattle.cost_vector.specs.Additions.{cost_with}
 use Rattle.cost_vector.proofs.Rows.{length-levels_of}
 use Rattle.cost_vector.proofs.Additions.{cost_with-cost, parts_with-greater}

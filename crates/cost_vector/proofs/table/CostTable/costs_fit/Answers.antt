@@ -1,4 +1,4 @@
-use Rattle.std.proofs.Common.{◌≡◌, ◌<◌, ◌^◌, ℕ, List, get_or, subst, sym}
+use Rattle.std.proofs.Common.{◌<◌, ◌^◌, ℕ, get_or}
 use Rattle.cost_vector.proofs.Additions.{fits-cost, fits-cost_with}
 use Rattle.cost_vector.proofs.table.CostTable.costs_fit.Goals as goal
 

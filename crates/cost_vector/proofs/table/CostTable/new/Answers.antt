@@ -1,5 +1,4 @@
-use Rattle.std.proofs.Common.{rules, ◌≡◌, ◌*◌, length, ap, sym, ◌∙◌, replicate}
-use Rattle.resolver_model.specs.Costs.{Table}
+use Rattle.std.proofs.Common.{rules, ◌≡◌, ◌*◌, length, ap, replicate}
 use Rattle.cost_vector.proofs.Rows.{levels_of-replicate}
 use Rattle.cost_vector.proofs.table.CostTable.new.Goals as goal
 

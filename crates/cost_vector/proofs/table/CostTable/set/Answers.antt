@@ -1,6 +1,6 @@
-use Rattle.std.proofs.Common.{rules, ◌≡◌, ◌*◌, ◌+◌, ◌<◌, ◌≤◌, ◌^◌, length, ap, sym, ◌∙◌, arith, ℕ}
+use Rattle.std.proofs.Common.{rules, ◌≡◌, ◌*◌, ◌+◌, ◌<◌, length, ap, sym, ◌∙◌, arith}
 use Rattle.std.specs.Vec.{vec_len}
-use Rattle.resolver_model.specs.Costs.{Table, with_amount}
+use Rattle.resolver_model.specs.Costs.{Table}
 use Rattle.cost_vector.proofs.Rows.{levels_of-set, length-levels_of, place_fits}
 use Rattle.cost_vector.proofs.table.CostTable.set.Goals as goal
 
