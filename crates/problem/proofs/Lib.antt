@@ -4,3 +4,5 @@ pub mod Kept
 pub mod Resolving
 pub mod Merged
 pub mod Sets
+pub mod Listing
+pub mod Indexes
