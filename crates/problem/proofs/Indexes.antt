@@ -1,14 +1,14 @@
 -- What one more dependency, or one more package, makes of the index of a problem.
-use Rattle.std.proofs.Common.{◌≡◌, ◌≢◌, ◌<◌, ◌≤◌, ◌-◌, ◌+◌, ◌&&◌, ◌||◌, not, ℕ, zero, suc, List, [], ◌∷◌, ◌++◌, Bool, true, false, cond, length, get_or, set, map, replicate, refl, ap, sym, ◌∙◌, arith, nat_lt, nat_eq, length-append, add-one, subst}
+use Rattle.std.proofs.Common.{◌≡◌, ◌≢◌, ◌<◌, ◌-◌, ◌+◌, ◌||◌, ℕ, zero, suc, List, [], ◌∷◌, ◌++◌, Bool, true, false, cond, length, get_or, set, map, replicate, refl, ap, sym, ◌∙◌, arith, nat_lt, nat_eq, length-append}
 use Rattle.std.specs.List.{filter, list_all, list_any}
 use Rattle.std.proofs.lemmas.List.{get_or-set_same, get_or-set_other, get_or_append_left, length-set, length-replicate}
 use Rattle.std.proofs.Math.Seq.{get_or-append_seam}
-use Rattle.std.proofs.lemmas.Bool.{and_parts, lt-ltb, ltb-true, eqb-true, eq-eqb, false_from_ne_true}
-use Rattle.choice_set.specs.Sets.{has}
-use Rattle.choice_set.proofs.Rising.{list_all-filter}
-use Rattle.resolver_model.specs.Problems.{Problem, Dependency, below, dependency, dependency_count, version_count, package_count, package_of, is_in_state, is_broken}
-use Rattle.resolver_model.proofs.Sublists.{below_less}
-use Rattle.resolver_model.proofs.Below.{filter-below_yes, filter-below_no}
+use Rattle.std.proofs.lemmas.Bool.{and_parts, ltb-true, eqb-true, eq-eqb, false_from_ne_true}
+use Rattle.lists.proofs.Below.{list_all-below, filter-below_yes, filter-below_no}
+use Rattle.lists.proofs.Tests.{list_all-filter}
+use Rattle.lists.specs.Below.{below}
+use Rattle.lists.specs.Sets.{has}
+use Rattle.resolver_model.specs.Problems.{Problem, Dependency, dependency, dependency_count, version_count, package_count, package_of, is_broken}
 use Rattle.problem.specs.Builds.{with_package, with_dependency, with_starts}
 use Rattle.problem.specs.Listing.{ends_in, with_end, without_end, noted, noted_all}
 use Rattle.problem.specs.Touching.{deps_of, deps_on, touches, touching, broken_at_start, is_unmet}
@@ -32,7 +32,7 @@ ends_below n (x ∷ xs) h =
     absurd (omega arith))
 
 ends_filter : (f : ℕ → Bool) (n : ℕ) → ends_in n (filter f (below n)) ≡ false
-ends_filter f n = ends_below n (filter f (below n)) (list_all-filter (λ x. nat_lt x n) f (below n) (below_less n))
+ends_filter f n = ends_below n (filter f (below n)) (list_all-filter (λ x. nat_lt x n) f (below n) (list_all-below n))
 
 with_end_filter : (f : ℕ → Bool) (n : ℕ) → with_end n (filter f (below n)) ≡ filter f (below n) ++ n ∷ []
 with_end_filter f n = ap (λ b. cond b (filter f (below n)) (filter f (below n) ++ n ∷ [])) (ends_filter f n)
@@ -50,8 +50,8 @@ filter_agrees f g n (x ∷ xs) e h =
 
 filter_grown : (f g : ℕ → Bool) (n more : ℕ) (b : Bool) → more ≡ n + 1 → ((d : ℕ) → d < n → g d ≡ f d) → g n ≡ b
     → filter g (below more) ≡ cond b (filter f (below n) ++ n ∷ []) (filter f (below n))
-filter_grown f g n more true m e h = ap (λ k. filter g (below k)) m ∙ filter-below_yes g n h ∙ ap (λ xs. xs ++ n ∷ []) (filter_agrees f g n (below n) e (below_less n))
-filter_grown f g n more false m e h = ap (λ k. filter g (below k)) m ∙ filter-below_no g n h ∙ filter_agrees f g n (below n) e (below_less n)
+filter_grown f g n more true m e h = ap (λ k. filter g (below k)) m ∙ filter-below_yes g n h ∙ ap (λ xs. xs ++ n ∷ []) (filter_agrees f g n (below n) e (list_all-below n))
+filter_grown f g n more false m e h = ap (λ k. filter g (below k)) m ∙ filter-below_no g n h ∙ filter_agrees f g n (below n) e (list_all-below n)
 
 -- What is noted in one list.
 

@@ -6,8 +6,8 @@ use Rattle.std.proofs.Math.Nat.{eq-or-lt_of_le}
 use Rattle.std.specs.List.{list_all}
 use Rattle.std.proofs.lemmas.List.Sums.{sum_by_push}
 use Rattle.std.proofs.lemmas.Bool.{and_from, ltb-true, ltb-false}
-use Rattle.choice_set.specs.Sets.{is_rising}
 use Rattle.std.proofs.lemmas.Bool.Decides.{nat_tests}
+use Rattle.lists.specs.Sets.{is_rising}
 use Rattle.resolver_model.specs.Problems.{Problem, Dependency, IsWellFormed, package_count, version_count, package_of, start_of, dependency, dependency_count}
 use Rattle.problem.specs.Limits.{IsWithinLimits, package_refusal, dependency_refusal, target_count, most_packages, most_versions, most_dependencies, most_targets}
 use Rattle.problem.specs.Builds.{with_package, with_dependency, with_starts}

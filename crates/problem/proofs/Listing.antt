@@ -1,7 +1,7 @@
 -- Lists by number: reads and writes of one, and what noting one more dependency leaves as it was.
-use Rattle.std.proofs.Common.{Vec, ◌≡◌, ◌<◌, ◌-◌, ◌+◌, ◌&&◌, ℕ, List, [], ◌∷◌, ◌++◌, Bool, true, false, cond, length, get_or, set, map, take, replicate, refl, ap, sym, ◌∙◌, arith, nat_lt, nat_eq, length-append, drop, zero, suc}
+use Rattle.std.proofs.Common.{Vec, ◌≡◌, ◌<◌, ◌-◌, ◌+◌, ℕ, List, [], ◌∷◌, ◌++◌, Bool, true, false, cond, length, get_or, set, map, take, refl, ap, sym, ◌∙◌, arith, nat_lt, length-append, drop, zero, suc}
 use Rattle.std.specs.declared.alloc.Global.{Global}
-use Rattle.std.proofs.lemmas.List.{get_or-map, get_or_read, map-set, take-map, length-map, take_more, length-set}
+use Rattle.std.proofs.lemmas.List.{get_or-map, map-set, take-map, length-map, take_more, length-set}
 use Rattle.std.proofs.Math.Seq.{get_or-append_seam, take-append_seam, map-set_same}
 use Rattle.std.proofs.lemmas.Bool.{and_from, lt-ltb, eq-eqb}
 use Rattle.std.proofs.lemmas.List.Sums.{fold-append}
@@ -63,9 +63,6 @@ pub copied_more : (lists : List (Vec ℕ Global)) (now : List (List ℕ)) (i : �
 copied_more lists now i v e lt h =
     let low : i < length now = omega (arith, lt, items_count lists now (sym e)) in
     take_more now i [] low ∙ ap (λ xs. take i now ++ xs ∷ []) (ap (λ ls. get_or ls i []) e ∙ items_at lists i v lt h)
-
-pub front_stays : (lists more : List (List ℕ)) → take (length lists) (lists ++ more) ≡ lists
-front_stays lists more = take-append_seam lists more
 
 -- a number is noted in the lists that some numbers name; in no other way do they differ from the old ones
 pub record IsNotedSoFar (dep : ℕ) (old now : List (List ℕ)) (numbers : List ℕ) : Type 0 where

@@ -1,9 +1,9 @@
 -- Which dependencies a version or a package has to do with, and which are broken to begin with.
-use Rattle.std.specs.Prelude.{◌≡◌, ◌<◌, ℕ, Bool, not, ◌&&◌, ◌||◌, List, [], ◌++◌, length, slice_index_or, map, replicate, ◌==◌}
+use Rattle.std.specs.Prelude.{ℕ, Bool, not, ◌&&◌, ◌||◌, List, [], ◌==◌}
 use Rattle.std.specs.List.{filter, list_any}
-use Rattle.choice_set.specs.Sets.{has}
-use Rattle.resolver_model.specs.Problems.{Problem, below, dependency, dependency_count, version_count, package_count, package_of, is_in_state, is_broken}
-use Rattle.problem.specs.Listing.{without_end}
+use Rattle.lists.specs.Below.{below}
+use Rattle.lists.specs.Sets.{has}
+use Rattle.resolver_model.specs.Problems.{Problem, dependency, dependency_count, package_of, is_in_state, is_broken}
 
 -- the dependencies of a version: those with it as their source, rising
 abbrev pub deps_of : Problem → ℕ → List ℕ

@@ -37,10 +37,7 @@ pub fn add_end(list: &mut Vec<u32>, dep: u32) -> Result<(), NoMemory>
     if is_last(list.as_slice(), dep) {
         return Ok(());
     }
-    match list.push(dep) {
-        Ok(()) => Ok(()),
-        Err(_) => Err(NoMemory),
-    }
+    Ok(list.push(dep)?)
 }
 
 /// Takes the dependency off, if it is the last.
@@ -56,13 +53,8 @@ pub fn drop_end(list: &mut Vec<u32>, dep: u32)
 fn push_list(alloc: Global, lists: &mut Vec<Vec<u32>>, list: &[u32]) -> Result<(), NoMemory>
     ensures { items_of lists.new.items ≡ (if is_ok result then items_of lists.old.items ++ list.now ∷ [] else items_of lists.old.items) }
 {
-    let Ok(copy) = Vec::from_slice(alloc, list) else {
-        return Err(NoMemory);
-    };
-    match lists.push(copy) {
-        Ok(()) => Ok(()),
-        Err(_) => Err(NoMemory),
-    }
+    let copy = Vec::from_slice(alloc, list)?;
+    Ok(lists.push(copy)?)
 }
 
 impl DepLists {

@@ -6,9 +6,9 @@
 //! dependency unmet, and has the number of versions plus the dependency's.
 #![tactic(auto)]
 
-ghost use Rattle.std.specs.Prelude.{vec_len, is_ok, if◌then◌else◌, ◌≡◌, ◌<◌, ◌≤◌, ◌+◌, ◌-◌, ◌^◌, ℕ, Bool, List, [], ◌∷◌, ◌++◌, length, slice_index, replicate, nat_lt, true, IsTrue, IfOk, OnOk, OnErr, map};
+ghost use Rattle.std.specs.Prelude.{vec_len, is_ok, if◌then◌else◌, ◌≡◌, ◌<◌, ◌≤◌, ◌+◌, ◌-◌, ◌^◌, ℕ, Bool, List, [], ◌∷◌, ◌++◌, length, slice_index, replicate, nat_lt, nat_le, ◌&&◌, true, IsTrue, IfOk, OnOk, OnErr, map};
 ghost use Rattle.std.specs.List.{list_all, list_any, find, count_by};
-ghost use Rattle.choice_set.specs.Sets.{is_rising};
+ghost use Rattle.lists.specs.Sets.{is_rising};
 ghost use Rattle.problem.specs.Kinds.{kind_of};
 ghost use Rattle.problem.specs.Limits.{end_past, IsAnswer, IsWithinLimits, package_refusal, dependency_refusal, target_count};
 ghost use Rattle.problem.specs.Builds.{no_packages, with_package, with_dependency, with_starts};
@@ -164,9 +164,7 @@ impl Problem {
         let mut list = Vec::new(alloc);
         for dep in 0..self.deps() {
             if self.is_unmet(starts, self.source(dep), self.targets(dep)) {
-                let Ok(()) = list.push(dep) else {
-                    return Err(NoMemory);
-                };
+                list.push(dep)?;
             }
         }
         Ok(list)
@@ -180,9 +178,9 @@ impl Problem {
         ensures within { IfOk result (λ list. IsTrue (list_all (λ q. nat_lt q (package_count self.now)) list.items)) }
     {
         let mut list = Vec::new(*self.owners.allocator());
-        push_number(&mut list, self.package_of(source))?;
+        list.push(self.package_of(source))?;
         for target in targets {
-            push_number(&mut list, self.package_of(*target))?;
+            list.push(self.package_of(*target))?;
         }
         Ok(list)
     }
@@ -219,15 +217,9 @@ impl Problem {
         requires { IsOneOfEach self.now starts.now }
         ensures { IfOk result (λ other. other ≡ with_starts self.now starts.now) }
     {
-        let Ok(owners) = Vec::from_slice(alloc, self.owners.as_slice()) else {
-            return Err(NoMemory);
-        };
-        let Ok(starts) = Vec::from_slice(alloc, starts) else {
-            return Err(NoMemory);
-        };
-        let Ok(firsts) = Vec::from_slice(alloc, self.firsts.as_slice()) else {
-            return Err(NoMemory);
-        };
+        let owners = Vec::from_slice(alloc, self.owners.as_slice())?;
+        let starts = Vec::from_slice(alloc, starts)?;
+        let firsts = Vec::from_slice(alloc, self.firsts.as_slice())?;
         let broken = self.unmet_with(alloc, starts.as_slice())?;
         let dependencies = self.dependencies.copy(alloc)?;
         let index = self.index.with_broken(alloc, broken)?;
@@ -364,28 +356,22 @@ impl Problem {
         self.index.broken()
     }
 
-    // Whether a choice installs a version of the package.
-    fn installs(&self, choice: u32, package: u32) -> bool
-        ensures { result ≡ installs_of self.now «package» choice }
-    {
-        (choice as usize) < self.owners.len() && self.owners[choice as usize] == package
-    }
-
     // Whether one of the choices installs a version of the package.
     fn any_installs(&self, items: &[u32], package: u32) -> bool
         ensures { result ≡ list_any (installs_of self.now «package») items.now }
     {
-        items.iter().any(|choice| self.installs(*choice, package))
+        self.first_install(items, package).is_some()
     }
 
     // The first of the choices that installs a version of the package.
     fn first_install(&self, items: &[u32], package: u32) -> Option<u32>
         ensures { result ≡ find (installs_of self.now «package») items.now }
     {
-        items
-            .iter()
-            .copied()
-            .find(|choice| self.installs(*choice, package))
+        let _ = &self.owners;
+        if package >= self.packages() {
+            return None;
+        }
+        first_within(items, self.absent_of(package), self.end_of(package))
     }
 
     /// Whether the set installs a version of the package.
@@ -512,9 +498,7 @@ impl Problem {
         let mut list = Vec::new(alloc);
         for number in 0..self.versions() + self.deps() {
             if self.is_choice(number) {
-                let Ok(()) = list.push(number) else {
-                    return Err(NoMemory);
-                };
+                list.push(number)?;
             }
         }
         Ok(list)
@@ -544,9 +528,7 @@ impl Problem {
     {
         for target in self.targets(dep) {
             if first <= *target && *target < end && self.is_free_install(set, *target) {
-                let Ok(()) = list.push(*target) else {
-                    return Err(NoMemory);
-                };
+                list.push(*target)?;
             }
         }
         Ok(())
@@ -565,9 +547,7 @@ impl Problem {
     {
         for version in first..end {
             if self.is_free_install(set, version) {
-                let Ok(()) = list.push(version) else {
-                    return Err(NoMemory);
-                };
+                list.push(version)?;
             }
         }
         Ok(())
@@ -580,9 +560,7 @@ impl Problem {
     {
         let leave = self.versions() + dep;
         if self.is_soft(dep) {
-            let Ok(()) = list.push(leave) else {
-                return Err(NoMemory);
-            };
+            list.push(leave)?;
         }
         Ok(())
     }
@@ -621,6 +599,16 @@ impl Model for Builder {
     ghost view = { λ b. b.problem };
 }
 
+// The first of the numbers from `first` to before `end`.
+fn first_within(numbers: &[u32], first: u32, end: u32) -> Option<u32>
+    ensures { result ≡ find (λ n. nat_le first n && nat_lt n end) numbers.now }
+{
+    numbers
+        .iter()
+        .copied()
+        .find(|number| first <= *number && *number < end)
+}
+
 // The end of a call whose count would exceed the most that there may be.
 fn limit(which: Which, most: usize) -> ProblemEnd
     requires { most < 2 ^ 32 }
@@ -650,9 +638,7 @@ fn add_package(
 {
     let number = starts.len() as u32;
     let first = owners.len() as u32;
-    let Ok(()) = starts.push(first + start) else {
-        return Err(NoMemory);
-    };
+    starts.push(first + start)?;
     let Ok(()) = firsts.push(first) else {
         let _ = starts.pop();
         return Err(NoMemory);
@@ -663,15 +649,6 @@ fn add_package(
         return Err(NoMemory);
     };
     Ok(number)
-}
-
-fn push_number(list: &mut Vec<u32>, number: u32) -> Result<(), NoMemory>
-    ensures { list.new.items ≡ (if is_ok result then list.old.items ++ number ∷ [] else list.old.items) }
-{
-    match list.push(number) {
-        Ok(()) => Ok(()),
-        Err(_) => Err(NoMemory),
-    }
 }
 
 // A dependency to be added: its number, its source and targets, the packages of both, whether it is soft, and whether it
@@ -755,10 +732,7 @@ impl Builder {
         if let Some(end) = self.problem.package_refusal(present) {
             return Err(end);
         }
-        match self.problem.add_package(present, start) {
-            Ok(number) => Ok(number),
-            Err(_) => Err(ProblemEnd::NoMemory),
-        }
+        Ok(self.problem.add_package(present, start)?)
     }
 
     /// Adds a dependency of the version `source` on one of the rising `targets`, and gives its number. A soft one may be
@@ -773,10 +747,7 @@ impl Builder {
         if let Some(end) = self.problem.dependency_refusal(targets) {
             return Err(end);
         }
-        match self.problem.add_dep(source, targets, soft) {
-            Ok(number) => Ok(number),
-            Err(_) => Err(ProblemEnd::NoMemory),
-        }
+        Ok(self.problem.add_dep(source, targets, soft)?)
     }
 
     /// The problem as it is built so far.

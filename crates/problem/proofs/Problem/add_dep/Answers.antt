@@ -1,4 +1,4 @@
-use Rattle.std.proofs.Common.{◌≡◌, ◌∷◌, ◌∙◌, List, ℕ, None, IsTrue, nat_lt, map, sym, ap, refl, rules, subst, arith, ◌<◌}
+use Rattle.std.proofs.Common.{◌≡◌, ◌∷◌, ◌∙◌, None, IsTrue, nat_lt, map, sym, ap, refl, rules, subst, ◌<◌}
 use Rattle.std.specs.List.{list_all}
 use Rattle.resolver_model.specs.Problems.{Problem, Dependency, dependency_count, version_count, package_of}
 use Rattle.problem.specs.Builds.{with_starts}

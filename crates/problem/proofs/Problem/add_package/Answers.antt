@@ -1,7 +1,7 @@
 use Rattle.std.proofs.Common.{◌≡◌, ◌+◌, ◌++◌, ◌∷◌, ◌∙◌, sym, ap, refl, rules, [], None, subst, vec_len, length, replicate}
 use Rattle.resolver_model.specs.Problems.{Problem, version_count, package_count}
 use Rattle.problem.specs.Limits.{package_refusal}
-use Rattle.problem.specs.Indexes.{Index, with_room, cut_to}
+use Rattle.problem.specs.Indexes.{with_room, cut_to}
 use Rattle.problem.proofs.Kept.{package_kept, cut_back, problem_same, kept_as}
 use Rattle.problem.proofs.Problem.add_package.Goals as goal
 

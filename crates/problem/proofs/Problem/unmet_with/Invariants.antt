@@ -1,6 +1,7 @@
 use Rattle.std.proofs.Common.{◌≡◌, []}
 use Rattle.std.specs.List.{filter}
-use Rattle.resolver_model.specs.Problems.{is_broken, below}
+use Rattle.lists.specs.Below.{below}
+use Rattle.resolver_model.specs.Problems.{is_broken}
 use Rattle.problem.specs.Builds.{with_starts}
 use Rattle.problem.proofs.Problem.unmet_with.Given as goal
 

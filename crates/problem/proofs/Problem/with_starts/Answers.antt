@@ -12,9 +12,9 @@ invariant_of-result c =
     let p : Problem = record { owners = c.self.inside.owners.items; starts = c.self.inside.starts.items; dependencies = c.self.inside.dependencies } in
     let index : Index = c.self.inside.index in
     let broken : List ℕ = c.in_ok-broken.broken.items in
-    let owners : c.in-Ok.owners.items ≡ c.self.inside.owners.items = search rules in
-    let starts : c.in-Ok-from_slice.starts.items ≡ c.args.starts.now = search rules in
-    let firsts : c.in-Ok-from_slice-2.firsts.items ≡ c.self.inside.firsts.items = search rules in
+    let owners : c.in_ok-owners.owners.items ≡ c.self.inside.owners.items = search rules in
+    let starts : c.in_ok-starts.starts.items ≡ c.args.starts.now = search rules in
+    let firsts : c.in_ok-firsts.firsts.items ≡ c.self.inside.firsts.items = search rules in
     let each : IsOneOfEach p c.args.starts.now = subst (λ r. IsOneOfEach r c.args.starts.now) (sym c.self.view_is) c.requires in
     let same : c.as_slice-3.result.now ≡ c.args.starts.now = c.as_slice-3.ensures.value ∙ starts in
     let first : broken ≡ broken_at_start (with_starts c.args.self.now c.args.starts.now) = c.in_ok-broken.ensures ∙ ap (λ s. broken_at_start (with_starts c.args.self.now s)) same in

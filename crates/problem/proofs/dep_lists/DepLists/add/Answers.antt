@@ -1,5 +1,4 @@
-use Rattle.std.proofs.Common.{rules, ◌≡◌, ◌∙◌, ap, sym, take, length, List, ℕ}
-use Rattle.std.proofs.lemmas.List.{length-map}
+use Rattle.std.proofs.Common.{rules, ◌≡◌, ◌∙◌, ap, sym, take, length}
 use Rattle.problem.specs.Listing.{items_of}
 use Rattle.problem.proofs.Listing.{items_count, items_taken}
 use Rattle.problem.proofs.dep_lists.DepLists.add.Goals as goal

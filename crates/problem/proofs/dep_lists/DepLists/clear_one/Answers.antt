@@ -1,5 +1,4 @@
-use Rattle.std.proofs.Common.{arith, ◌≡◌, ◌∙◌, ◌<◌, ap, sym, subst, ℕ, List, get_or, length, set, []}
-use Rattle.std.proofs.lemmas.List.{length-map}
+use Rattle.std.proofs.Common.{arith, ◌≡◌, ◌<◌, subst, ℕ, List, get_or, length, set, []}
 use Rattle.problem.specs.Listing.{items_of, without_end}
 use Rattle.problem.proofs.Listing.{items_count, one_cleared}
 use Rattle.problem.proofs.dep_lists.DepLists.clear_one.Goals as goal

@@ -1,6 +1,4 @@
-use Rattle.std.proofs.Common.{rules, ◌≡◌, ◌<◌, ◌++◌, ◌∷◌, [], ◌∙◌, ap, sym, List, ℕ, Vec, get_or, length, take}
-use Rattle.std.specs.declared.alloc.Global.{Global}
-use Rattle.problem.specs.Listing.{items_of}
+use Rattle.std.proofs.Common.{rules, ◌≡◌, ◌<◌, ◌++◌, ◌∷◌, [], ◌∙◌, ap, sym, get_or, length, take}
 use Rattle.problem.proofs.Listing.{copied_more}
 use Rattle.problem.proofs.dep_lists.DepLists.copy.Goals as goal
 

@@ -1,4 +1,4 @@
-use Rattle.std.proofs.Common.{◌≡◌, ◌∙◌, ap, take, rules}
+use Rattle.std.proofs.Common.{◌∙◌, ap, take}
 use Rattle.problem.specs.Listing.{items_of}
 use Rattle.problem.proofs.Listing.{items_taken}
 use Rattle.problem.proofs.dep_lists.DepLists.cut.Goals as goal

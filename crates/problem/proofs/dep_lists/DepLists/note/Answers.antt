@@ -1,4 +1,4 @@
-use Rattle.std.proofs.Common.{rules, ◌≡◌, ◌<◌, length, get_or, arith}
+use Rattle.std.proofs.Common.{rules, ◌≡◌, ◌<◌, length, get_or}
 use Rattle.problem.proofs.Listing.{noted_more}
 use Rattle.problem.proofs.dep_lists.DepLists.note.Goals as goal
 
