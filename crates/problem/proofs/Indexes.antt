@@ -31,6 +31,10 @@ ends_below n (x ∷ xs) h =
     let less : get_or (x ∷ xs) (length (x ∷ xs) - 1) 0 < n = ltb-true _ n (all_at (λ x. nat_lt x n) (x ∷ xs) (length (x ∷ xs) - 1) h (omega arith)) in
     absurd (omega arith))
 
+-- each number that a test takes among those below n is below n
+pub filter_range : (f : ℕ → Bool) (n : ℕ) → list_all (λ x. nat_lt x n) (filter f (below n)) ≡ true
+filter_range f n = list_all-filter (λ x. nat_lt x n) f (below n) (list_all-below n)
+
 ends_filter : (f : ℕ → Bool) (n : ℕ) → ends_in n (filter f (below n)) ≡ false
 ends_filter f n = ends_below n (filter f (below n)) (list_all-filter (λ x. nat_lt x n) f (below n) (list_all-below n))
 

@@ -328,7 +328,8 @@ impl Problem {
     /// The dependencies with this version as their source, rising. They are lent without memory.
     pub fn deps_of(&self, version: u32) -> &[u32]
         requires { version < version_count self.now }
-        ensures { result.now ≡ deps_of self.now version }
+        ensures list { result.now ≡ deps_of self.now version }
+        ensures range { IsTrue (list_all (λ d. nat_lt d (dependency_count self.now)) result.now) }
     {
         self.index.of(version)
     }
@@ -336,7 +337,8 @@ impl Problem {
     /// The dependencies with this version among their targets, rising. They are lent without memory.
     pub fn deps_on(&self, version: u32) -> &[u32]
         requires { version < version_count self.now }
-        ensures { result.now ≡ deps_on self.now version }
+        ensures list { result.now ≡ deps_on self.now version }
+        ensures range { IsTrue (list_all (λ d. nat_lt d (dependency_count self.now)) result.now) }
     {
         self.index.on(version)
     }
@@ -344,14 +346,16 @@ impl Problem {
     /// The dependencies that have a version of the package as source or target, rising. They are lent without memory.
     pub fn touching(&self, package: u32) -> &[u32]
         requires { «package» < package_count self.now }
-        ensures { result.now ≡ touching self.now «package» }
+        ensures list { result.now ≡ touching self.now «package» }
+        ensures range { IsTrue (list_all (λ d. nat_lt d (dependency_count self.now)) result.now) }
     {
         self.index.touching(package)
     }
 
     /// The dependencies that are broken at the empty set, rising. They are lent without memory.
     pub fn broken_at_start(&self) -> &[u32]
-        ensures { result.now ≡ broken_at_start self.now }
+        ensures list { result.now ≡ broken_at_start self.now }
+        ensures range { IsTrue (list_all (λ d. nat_lt d (dependency_count self.now)) result.now) }
     {
         self.index.broken()
     }
