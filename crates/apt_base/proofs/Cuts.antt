@@ -1,5 +1,5 @@
 -- Lines of an input, cut from its front.
-use Rattle.std.proofs.Common.{◌≡◌, ◌≢◌, ℕ, ◌+◌, ◌-◌, ◌<◌, ◌≤◌, Bool, true, false, cond, eqb, List, [], ◌∷◌, ◌++◌, length, take, drop, get_or, Some, None, Result, Ok, Err, refl, add-one, suc, zero, ◌&&◌, sym, ap, subst, ◌∙◌, arith, length-take, is_ok, is_err}
+use Rattle.std.proofs.Common.{◌≡◌, ◌≢◌, ℕ, ◌+◌, ◌-◌, ◌<◌, ◌≤◌, Bool, true, false, cond, eqb, List, [], ◌∷◌, ◌++◌, length, take, drop, get_or, Some, None, refl, add-one, suc, zero, ◌&&◌, sym, ap, subst, ◌∙◌, arith, length-take}
 use Rattle.std.specs.List.{position, position_or_len}
 use Rattle.std.proofs.lemmas.List.Quantifiers.{position-Some}
 use Rattle.std.proofs.lemmas.List.Sums.{fails_before_first}
@@ -144,11 +144,6 @@ part_found held self rest line longer place same at is more =
 pub part_not_found : (held self rest line longer : List ℕ) → held ≡ self → None ≡ position (λ b. b == 10) held → rest ≡ [] → longer ≡ line ++ held → TakesPart false self rest line longer
 part_not_found held self rest line longer same at is more =
     (subst HasNoNewline same (not_found held (sym at)), is, more ∙ ap (λ h. line ++ h) same)
-
--- a list after a call that had the memory to make it longer
-pub grown : {A T E : Type 0} (result : Result T E) (new long old : List A) → new ≡ cond (is_ok result) long old → false ≡ is_err result → new ≡ long
-grown (Ok _) new long old is good = is
-grown (Err _) new long old is good = cc
 
 pub nothing_left : (end : ℕ) (buffer : List ℕ) → take (end - end) (drop end buffer) ≡ []
 nothing_left end buffer = let none : end - end ≡ 0 = omega arith in ap (λ n. take n (drop end buffer)) none

@@ -1,11 +1,11 @@
 -- Shelves in memory.
-use Rattle.std.proofs.Common.{◌≡◌, ◌≢◌, ℕ, ◌<◌, Bool, true, false, not, cond, List, [], ◌∷◌, ◌++◌, length, Option, Some, None, Result, Ok, Err, IfSome, OnOk, IsSome, is_some, is_err, get_or, map, refl, sym, ap, subst, ◌∙◌, arith}
+use Rattle.std.proofs.Common.{◌≡◌, ◌≢◌, ℕ, ◌<◌, Bool, true, false, not, cond, List, [], ◌∷◌, ◌++◌, length, Option, Some, None, Result, Ok, Err, IfSome, IsSome, is_some, get_or, map, refl, sym, ap, subst, ◌∙◌, arith}
 use Rattle.std.specs.Prelude.{◌&&◌, ◌==◌}
 use Rattle.std.specs.Option.{option_map, unwrap_or}
 use Rattle.std.specs.Str.{bytes_eq}
 use Rattle.std.specs.List.{list_any}
 use Rattle.std.proofs.lemmas.Slice.Eq.{bytes_eq-Decides}
-use Rattle.std.proofs.lemmas.Bool.{false≢true}
+use Rattle.std.proofs.lemmas.Bool.{false≢true, false_from_ne_true}
 use Rattle.std.proofs.lemmas.Bool.Decides.{nat_tests}
 use Rattle.std.specs.List.{slice_get, position}
 use Rattle.std.proofs.lemmas.Option.{slice_get-get_or, slice_get_read}
@@ -28,10 +28,6 @@ use Rattle.apt_base.specs.declared.mem_shelf.Opened.{Opened}
 use Rattle.apt_base.specs.Memory.{none_failed}
 use Rattle.apt_base.proofs.Counts.{IsLater-refl, CountsOnly-refl, CountsOnly-trans}
 
-not_true : (b : Bool) → (b ≡ true → ⊥) → b ≡ false
-not_true true h = absurd (h refl)
-not_true false h = refl
-
 bytes_eq-same : (name : List ℕ) → bytes_eq name name ≡ true
 bytes_eq-same name = (bytes_eq-Decides name name).1 refl
 
@@ -39,7 +35,7 @@ bytes_eq-true : (a b : List ℕ) → bytes_eq a b ≡ true → a ≡ b
 bytes_eq-true a b same = (bytes_eq-Decides a b).0 same
 
 bytes_eq-false : (a b : List ℕ) → a ≢ b → bytes_eq a b ≡ false
-bytes_eq-false a b other = not_true (bytes_eq a b) (λ same. other (bytes_eq-true a b same))
+bytes_eq-false a b other = false_from_ne_true (bytes_eq a b) (λ same. other (bytes_eq-true a b same))
 
 -- a name behind others
 at_end_other : {X : Type 0} (xs : ByName X) (name other : List ℕ) (value : X) → other ≢ name → at_name (xs ++ (name, value) ∷ []) other ≡ at_name xs other
@@ -274,9 +270,6 @@ file_found key value name (x ∷ xs) place at =
     (get_or (x ∷ xs) place x, slice_get-get_or (x ∷ xs) place x here.0, sym (bytes_eq-true name (key (get_or (x ∷ xs) place x)) here.1), named_at key value name (x ∷ xs) place x at)
 
 -- what a clause says of an answer that was no error
-pub on_ok : {T E P : Type 0} (result : Result T E) → OnOk result P → false ≡ is_err result → P
-on_ok (Ok _) holds good = holds
-on_ok (Err _) holds good = cc
 
 none_asked : (files : ByName (List ℕ)) → none_failed [] files ≡ true
 none_asked [] = refl

@@ -1,6 +1,7 @@
 -- Bytes that are written piece by piece.
-use Rattle.std.proofs.Common.{◌≡◌, ℕ, ◌+◌, ◌<◌, ◌≤◌, List, [], ◌∷◌, ◌++◌, length, take, drop, Option, Some, None, Ok, Err, IfSome, refl, sym, ap, subst, ◌∙◌, arith, append_assoc, length-append, take-append-drop}
+use Rattle.std.proofs.Common.{◌≡◌, ℕ, ◌+◌, ◌<◌, ◌≤◌, List, [], ◌++◌, length, take, drop, Option, Some, None, Ok, Err, IfSome, refl, sym, ap, subst, ◌∙◌, arith, append_assoc, length-append, take-append-drop}
 use Rattle.std.specs.Option.{IsSomeAnd}
+use Rattle.std.proofs.Math.Seq.{take-append_seam}
 use Rattle.std.specs.Io.KnownBytes.{append_known}
 use Rattle.apt_base.specs.Faults.{Rose, IsLater}
 use Rattle.apt_base.specs.Bytes.{SinkState, IsSinkState, IsWrite, HasRoom, WritesPrefix}
@@ -34,13 +35,9 @@ has_written_more old mid new bytes rest count before call = record {
   written = call.front ∙ ap (λ w. append_known w (take count rest)) before.written ∙ append_known-append old.written before.front (take count rest);
 }
 
-take_front : (front rest : List ℕ) → take (length front) (front ++ rest) ≡ front
-take_front [] rest = grind arith
-take_front (x ∷ front) rest = ap (λ l. x ∷ l) (take_front front rest)
-
 pub written_prefix : (old mid new : SinkState) (bytes rest : List ℕ) (e : Failed) → HasWritten old bytes rest mid → 0 < length rest → IsWrite mid rest (Err e) new → WritesPrefix old.written bytes new.written
 written_prefix old mid new bytes rest e before some call =
-    let same : take (length before.front) bytes ≡ before.front = ap (take (length before.front)) before.whole ∙ take_front before.front rest in
+    let same : take (length before.front) bytes ≡ before.front = ap (take (length before.front)) before.whole ∙ take-append_seam before.front rest in
     let shorter : length before.front < length bytes = omega (arith, ap length before.whole, length-append before.front rest) in
     let kept : new.written ≡ append_known old.written before.front = call.front ∙ append_known-nil mid.written ∙ before.written in
     (length before.front, shorter, kept ∙ ap (append_known old.written) (sym same))

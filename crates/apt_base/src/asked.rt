@@ -51,12 +51,8 @@ impl Asked {
         if place_of(self.entries.as_slice(), name).is_some() {
             return Ok(());
         }
-        let Ok(name) = String::from_str(alloc, name) else {
-            return Err(NoMemory);
-        };
-        if self.entries.push(Entry { name, faults: 0 }).is_err() {
-            return Err(NoMemory);
-        }
+        let name = String::from_str(alloc, name)?;
+        self.entries.push(Entry { name, faults: 0 })?;
         Ok(())
     }
 

@@ -3,6 +3,9 @@ ghost use Rattle.std.specs.Prelude.{IsSome};
 ghost use Rattle.apt_base.specs.Bytes.{SourceState, IsSourceState, IsRead, SinkState, IsSinkState, IsWrite};
 ghost use Rattle.apt_base.specs.Files.{ShelfState, IsShelfState, IsOpening, IsFileRead};
 
+use choice_set::NoMemory;
+use std::alloc::AllocError;
+
 /// A read, a write or an open failed.
 #[derive(Clone, Copy, Debug, PartialEq, Eq, Drop)]
 pub struct Failed;
@@ -12,6 +15,28 @@ pub struct Failed;
 pub enum OpenEnd {
     Failed,
     NoMemory,
+}
+
+impl From<NoMemory> for OpenEnd {
+    ghost use Rattle.std.specs.Prelude.{◌≡◌};
+    ghost use Rattle.apt_base.specs.declared.calls.OpenEnd.TheVariants as open_end;
+
+    ghost from_gives = { λ _ e. e ≡ open_end.NoMemory };
+
+    fn from(_error: NoMemory) -> OpenEnd {
+        OpenEnd::NoMemory
+    }
+}
+
+impl From<AllocError> for OpenEnd {
+    ghost use Rattle.std.specs.Prelude.{◌≡◌};
+    ghost use Rattle.apt_base.specs.declared.calls.OpenEnd.TheVariants as open_end;
+
+    ghost from_gives = { λ _ e. e ≡ open_end.NoMemory };
+
+    fn from(_error: AllocError) -> OpenEnd {
+        OpenEnd::NoMemory
+    }
 }
 
 /// What bytes are read from.

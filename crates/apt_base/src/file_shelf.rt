@@ -44,12 +44,8 @@ impl<R: Files> Shelf for FileShelf<'_, R> {
     ghost is_state = { λ s. untold_shelf s.asked (option_map string_bytes s.name) };
 
     fn open(&mut self, name: &str) -> Result<(), OpenEnd> {
-        let Ok(copy) = String::from_str(self.alloc, name) else {
-            return Err(OpenEnd::NoMemory);
-        };
-        if self.asked.enter(self.alloc, name).is_err() {
-            return Err(OpenEnd::NoMemory);
-        }
+        let copy = String::from_str(self.alloc, name)?;
+        self.asked.enter(self.alloc, name)?;
         match fs::open(self.rt, name) {
             Ok(file) => {
                 self.name = Some(copy);

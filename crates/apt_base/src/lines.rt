@@ -29,6 +29,28 @@ pub enum LineEnd {
     NoMemory,
 }
 
+impl From<NoMemory> for LineEnd {
+    ghost use Rattle.std.specs.Prelude.{◌≡◌};
+    ghost use Rattle.apt_base.specs.declared.lines.LineEnd.TheVariants as line_end;
+
+    ghost from_gives = { λ _ e. e ≡ line_end.NoMemory };
+
+    fn from(_error: NoMemory) -> LineEnd {
+        LineEnd::NoMemory
+    }
+}
+
+impl From<Failed> for LineEnd {
+    ghost use Rattle.std.specs.Prelude.{◌≡◌};
+    ghost use Rattle.apt_base.specs.declared.lines.LineEnd.TheVariants as line_end;
+
+    ghost from_gives = { λ _ e. e ≡ line_end.ReadFault };
+
+    fn from(_error: Failed) -> LineEnd {
+        LineEnd::ReadFault
+    }
+}
+
 /// A reader of lines. It takes pieces from its source into a buffer of its own, and is seen as the
 /// bytes that it has taken and not yet given as lines.
 #[derive(Drop)]
@@ -51,14 +73,12 @@ impl LineReader {
     pub fn new(alloc: Global) -> Result<LineReader, NoMemory>
         ensures { IfOk result (λ reader. reader ≡ []) }
     {
-        match vec![in alloc; 0u8; BUFFER] {
-            Ok(buffer) => Ok(LineReader {
-                buffer,
-                start: 0,
-                end: 0,
-            }),
-            Err(_) => Err(NoMemory),
-        }
+        let buffer = vec![in alloc; 0u8; BUFFER]?;
+        Ok(LineReader {
+            buffer,
+            start: 0,
+            end: 0,
+        })
     }
 
     /// Reads the next line into `line`, in place of what it held, and answers whether there is one.
@@ -83,21 +103,15 @@ impl LineReader {
         let _ = &self.end;
         line.clear();
         loop {
-            match self.take_part(line) {
-                Ok(true) => {
-                    drop_return(line);
-                    return Ok(true);
-                }
-                Ok(false) => {}
-                Err(_) => return Err(LineEnd::NoMemory),
+            if self.take_part(line)? {
+                drop_return(line);
+                return Ok(true);
             }
             if line.len() > MOST_LINE_BYTES {
                 return Err(LineEnd::TooLong);
             }
-            match self.fill(source, BUFFER - line.len()) {
-                Ok(0) => return Ok(!line.is_empty()),
-                Ok(_) => {}
-                Err(_) => return Err(LineEnd::ReadFault),
+            if self.fill(source, BUFFER - line.len())? == 0 {
+                return Ok(!line.is_empty());
             }
         }
     }
@@ -110,16 +124,12 @@ impl LineReader {
         let held = &self.buffer[self.start..self.end];
         match newline_at(held) {
             Some(place) => {
-                if line.extend_from_slice(&held[..place]).is_err() {
-                    return Err(NoMemory);
-                }
+                line.extend_from_slice(&held[..place])?;
                 self.start += place + 1;
                 Ok(true)
             }
             None => {
-                if line.extend_from_slice(held).is_err() {
-                    return Err(NoMemory);
-                }
+                line.extend_from_slice(held)?;
                 self.start = self.end;
                 Ok(false)
             }

@@ -75,9 +75,7 @@ impl Shelf for MemShelf {
         ensures answer { result ≢ Err OpenEnd.NoMemory → (result ≡ open_answer self.old name.now) × (self.new.plan ≡ one_call_more self.old.plan) }
         ensures no_memory { result ≡ Err OpenEnd.NoMemory → self.new.plan ≡ self.old.plan }
     {
-        if self.asked.enter(self.alloc, name).is_err() {
-            return Err(OpenEnd::NoMemory);
-        }
+        self.asked.enter(self.alloc, name)?;
         match file_at(self.files.as_slice(), name) {
             Some(file) => match self.plan.call(0) {
                 Ok(_) => {

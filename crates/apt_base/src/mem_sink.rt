@@ -37,9 +37,7 @@ impl MemSink {
         ensures plan { IfOk result (λ sink. sink.plan ≡ record { piece = piece; failing = failing; calls = 0 }) }
         ensures room { IfOk result (λ sink. sink.room ≡ room) }
     {
-        let Ok(bytes) = Vec::with_capacity(alloc, room) else {
-            return Err(NoMemory);
-        };
+        let bytes = Vec::with_capacity(alloc, room)?;
         Ok(MemSink {
             bytes,
             room,

@@ -22,11 +22,21 @@ fn a_file_is_read_up_to_the_limit(rt: HostRuntime) -> Result<(), Fail> {
     let mut shelf = shelf_with(alloc, "0123456789", &[])?;
     let read = read_whole(alloc, &mut shelf, "status", 10);
     assert!(rt; matches!(&read, Ok(bytes) if bytes.as_slice() == "0123456789".as_bytes()));
+    Ok(())
+}
+
+#[test]
+fn a_longer_file_is_refused(rt: HostRuntime) -> Result<(), Fail> {
+    let alloc = rt.alloc();
     let mut shelf = shelf_with(alloc, "0123456789a", &[])?;
     let read = read_whole(alloc, &mut shelf, "status", 10);
     assert!(rt; matches!(&read, Err(ReadEnd::TooLong { limit: 10 })));
-    let read = read_whole(alloc, &mut shelf, "packages", 10);
-    assert!(rt; matches!(&read, Err(ReadEnd::ReadFault)));
+    Ok(())
+}
+
+#[test]
+fn a_call_fails_where_it_is_to(rt: HostRuntime) -> Result<(), Fail> {
+    let alloc = rt.alloc();
     let mut shelf = shelf_with(alloc, "0123456789", &[2])?;
     let read = read_whole(alloc, &mut shelf, "status", 10);
     assert!(rt; matches!(&read, Err(ReadEnd::ReadFault)));
@@ -36,19 +46,15 @@ fn a_file_is_read_up_to_the_limit(rt: HostRuntime) -> Result<(), Fail> {
 #[test]
 fn bytes_are_written_in_pieces(rt: HostRuntime) -> Result<(), Fail> {
     let alloc = rt.alloc();
-    for (room, failing, ends, written) in [
-        (100usize, 9u64, Ok(()), "aptres: 3"),
-        (100, 1, Err(WriteFault), "apt"),
-        (5, 9, Err(WriteFault), "aptre"),
-        (9, 9, Ok(()), "aptres: 3"),
-    ] {
-        let failing = Vec::from_slice(alloc, [failing].as_slice())?;
-        let Ok(mut sink) = MemSink::new(alloc, room, 3, failing) else {
-            return Err(Fail::new("no memory"));
-        };
-        assert_eq!(rt; write_all(&mut sink, "aptres: 3".as_bytes()), ends);
-        assert_eq!(rt; sink.written(), written.as_bytes());
-    }
+    let failing = Vec::from_slice(alloc, [1u64].as_slice())?;
+    let Ok(mut sink) = MemSink::new(alloc, 100, 3, failing) else {
+        return Err(Fail::new("no memory"));
+    };
+    assert_eq!(rt;
+        write_all(&mut sink, "aptres: 3".as_bytes()),
+        Err(WriteFault)
+    );
+    assert_eq!(rt; sink.written(), "apt".as_bytes());
     Ok(())
 }
 

@@ -6,8 +6,8 @@ ghost use Rattle.apt_base.specs.Faults.{IsLater, HasCause, CountsOnly, at_name, 
 ghost use Rattle.apt_base.specs.Bytes.{HasRoom, WritesPrefix, TakesAtMost};
 ghost use Rattle.apt_base.specs.Files.{KeepsFiles, HasReadCause, ReadsFile, TakesOfFile, told_file};
 
-use crate::{OpenEnd, Shelf, Sink};
-use std::alloc::Global;
+use crate::{Failed, OpenEnd, Shelf, Sink};
+use std::alloc::{AllocError, Global};
 
 /// How many bytes of a file are asked for at a time.
 const PIECE: usize = 65_536;
@@ -21,6 +21,28 @@ pub enum ReadEnd {
     TooLong { limit: u64 },
     /// There was not enough memory.
     NoMemory,
+}
+
+impl From<Failed> for ReadEnd {
+    ghost use Rattle.std.specs.Prelude.{◌≡◌};
+    ghost use Rattle.apt_base.specs.declared.whole.ReadEnd.TheVariants as read_end;
+
+    ghost from_gives = { λ _ e. e ≡ read_end.ReadFault };
+
+    fn from(_error: Failed) -> ReadEnd {
+        ReadEnd::ReadFault
+    }
+}
+
+impl From<AllocError> for ReadEnd {
+    ghost use Rattle.std.specs.Prelude.{◌≡◌};
+    ghost use Rattle.apt_base.specs.declared.whole.ReadEnd.TheVariants as read_end;
+
+    ghost from_gives = { λ _ e. e ≡ read_end.NoMemory };
+
+    fn from(_error: AllocError) -> ReadEnd {
+        ReadEnd::NoMemory
+    }
 }
 
 /// Bytes could not be written: the sink failed.
@@ -82,16 +104,13 @@ fn read_open<F: Shelf>(alloc: Global, shelf: &mut F, limit: u64) -> Result<Vec<u
     let mut bytes = Vec::new(alloc);
     let mut piece = [0u8; PIECE];
     loop {
-        let count = match shelf.read(&mut piece) {
-            Ok(0) => return Ok(bytes),
-            Ok(count) => count,
-            Err(_) => return Err(ReadEnd::ReadFault),
-        };
+        let count = shelf.read(&mut piece)?;
+        if count == 0 {
+            return Ok(bytes);
+        }
         if limit - (bytes.len() as u64) < count as u64 {
             return Err(ReadEnd::TooLong { limit });
         }
-        if bytes.extend_from_slice(&piece[..count]).is_err() {
-            return Err(ReadEnd::NoMemory);
-        }
+        bytes.extend_from_slice(&piece[..count])?;
     }
 }

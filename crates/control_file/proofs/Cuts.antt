@@ -1,5 +1,5 @@
 -- A text cut at its newlines, one line after the other.
-use Rattle.std.proofs.Common.{◌≡◌, ℕ, zero, suc, ◌+◌, ◌^◌, ◌<◌, Bool, true, false, cond, List, [], ◌∷◌, ◌++◌, length, get_or, take, drop, refl, ap, sym, ◌∙◌, arith, eqb, append_assoc, length-append}
+use Rattle.std.proofs.Common.{◌≡◌, ℕ, zero, suc, ◌+◌, ◌^◌, ◌<◌, true, false, cond, List, [], ◌∷◌, ◌++◌, length, get_or, take, drop, refl, ap, sym, ◌∙◌, arith, eqb, append_assoc, length-append}
 use Rattle.std.specs.List.{onto_first}
 use Rattle.std.proofs.lemmas.List.{append-nil, take-append-drop, length-drop}
 use Rattle.control_file.specs.Text.{Line, cut, numbered, lines_from, bytes_of}
@@ -92,7 +92,3 @@ bytes_of-lines n (x ∷ xs) =
       | true ↦ ap (λ r. x ∷ r) (bytes_of-lines (n + 1) xs)
       | false ↦ bytes_of_onto n x (cut xs) ∙ ap (λ r. x ∷ r) (bytes_of-lines n xs)
     ]
-
-pub false_from_not : (b : Bool) → (b ≡ true → ⊥) → b ≡ false
-false_from_not true h = absurd (h refl)
-false_from_not false h = refl

@@ -10,7 +10,8 @@ use Rattle.control_file.specs.Text.{Line, cut, numbered, lines_from, bytes_of, i
 use Rattle.control_file.specs.Answers.{is_paragraph_next, answer_of, first_answer, behind_first, without_first, Reads, Leaves}
 use Rattle.control_file.specs.Passes.{faulty, Passed, IsFirstLine, SkipsBlank, Scans, at_line}
 use Rattle.control_file.proofs.Cuts.{passed_lines, passed_more, bytes_of-lines}
-use Rattle.control_file.proofs.Runs.{paragraphs_of-blank, paragraphs_of-full, paragraphs_of-front, Faultless, faultless_end, fault_next, all_push, length-fields_of}
+use Rattle.lists.proofs.Tests.{list_all-end}
+use Rattle.control_file.proofs.Runs.{paragraphs_of-blank, paragraphs_of-full, paragraphs_of-front, Faultless, faultless_end, fault_next, length-fields_of}
 
 -- where blank lines were skipped the same is read
 pub skips_reading : (n : ℕ) (old : List ℕ) (m : ℕ) (rest : List ℕ) → SkipsBlank n old m rest → reading_of (at_line old n) ≡ reading_of (at_line rest m)
@@ -22,7 +23,7 @@ pub reading_faulty : (n : ℕ) (old : List ℕ) (m : ℕ) (rest : List ℕ) (lin
 reading_faulty n old m rest lines first after named kind p f full unblank names faultless is =
     let lines' = lines ++ first ∷ [] in
     let p' = passed_more n old m rest lines first after p f in
-    let full' = all_push (λ l. not (is_blank l)) lines first full (ap not unblank) in
+    let full' = list_all-end (λ l. not (is_blank l)) lines first full (ap not unblank) in
     let some : 0 < length lines' = omega (arith, length-append lines (first ∷ [])) in
     let r = paragraphs_of-front n lines' (lines_from (m + 1) after) some full' in
     let here = fault_next n lines first kind r.0 faultless (ap (λ ns. fault_of_line ns first) (sym names) ∙ is) in

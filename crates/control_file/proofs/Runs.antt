@@ -3,7 +3,6 @@ use Rattle.std.proofs.Common.{◌≡◌, ℕ, suc, ◌+◌, ◌<◌, Bool, true,
 use Rattle.std.specs.List.{filter, list_all, onto_first, slice_split, take_while}
 use Rattle.std.proofs.lemmas.Bool.{and_parts, and_from, not-true, not-false}
 use Rattle.std.proofs.lemmas.List.{append-nil}
-use Rattle.std.proofs.lemmas.List.Folds.{list_all-append}
 use Rattle.std.proofs.lemmas.List.Splits.{slice_split-cons_no}
 use Rattle.control_file.specs.declared.CtlKind.{CtlKind}
 use Rattle.control_file.specs.Text.{Line, numbered, is_blank, is_blank_line, has_line, continues, name_of, names_of, fault_of_line, at_line_or, fault_behind, first_fault, fields_of, field_of, paragraphs_of}
@@ -127,6 +126,3 @@ length-fields_of (l ∷ ls) =
       | true ↦ length-fields_of ls
       | false ↦ ap suc (length-fields_of ls)
     ]
-
-pub all_push : {X : Type 0} (p : X → Bool) (xs : List X) (x : X) → list_all p xs ≡ true → p x ≡ true → list_all p (xs ++ x ∷ []) ≡ true
-all_push p xs x all one = list_all-append p xs (x ∷ []) ∙ and_from (list_all p xs) _ all (and_from (p x) true one refl)

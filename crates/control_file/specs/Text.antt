@@ -3,6 +3,8 @@
 use Rattle.std.specs.Prelude.{ℕ, ◌+◌, ◌-◌, Bool, true, false, not, cond, ◌&&◌, ◌||◌, ◌==◌, nat_le, List, [], ◌∷◌, ◌++◌, map, length, take, drop, slice_index, Option, None, Some}
 use Rattle.std.specs.List.{filter, flat_map, list_all, list_any, position_or_len, suffix_len, take_while, before_first, onto_first, slice_split}
 use Rattle.std.specs.Str.{str_eq_ignore_ascii_case}
+pub use Rattle.ascii.specs.Bytes.{is_space, is_colon}
+use Rattle.ascii.specs.Texts.{begins}
 use Rattle.control_file.specs.declared.CtlFault.{CtlFault}
 use Rattle.control_file.specs.declared.CtlKind.{CtlKind}
 use Rattle.control_file.specs.declared.CtlKind.TheVariants.{NoColon, BadName, NoFieldYet, Twice, ManyFields}
@@ -37,12 +39,6 @@ without_last b xs = cond (slice_index xs (length xs - 1) == b) (take (length xs 
 abbrev pub without_line_end : List ℕ → List ℕ
 without_line_end bytes = without_last 13 (without_last 10 bytes)
 
-abbrev pub is_space : ℕ → Bool
-is_space b = b == 32 || b == 9
-
-abbrev pub is_colon : ℕ → Bool
-is_colon b = b == 58
-
 -- bytes of a line that is empty, or only spaces and tabs
 abbrev pub is_blank : List ℕ → Bool
 is_blank bytes = list_all is_space (without_line_end bytes)
@@ -54,8 +50,7 @@ abbrev pub content : Line → List ℕ
 content l = without_line_end l.bytes
 
 abbrev pub begins_with_space : List ℕ → Bool
-begins_with_space [] = false
-begins_with_space (b ∷ bs) = is_space b
+begins_with_space bytes = begins is_space bytes
 
 -- a line that is not blank continues the field above it if it begins with a space or a tab
 abbrev pub continues : Line → Bool

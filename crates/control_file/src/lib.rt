@@ -14,6 +14,7 @@ ghost use Rattle.control_file.specs.Passes.{IsFirstLine, own_names, SkipsBlank, 
 #[cfg(test)]
 mod tests;
 
+use ascii::is_space;
 use memchr::memchr;
 use std::marker::Model;
 
@@ -51,12 +52,6 @@ fn cut_line(text: &[u8]) -> (&[u8], &[u8])
         Some(place) => text.split_at(place + 1),
         None => text.split_at(text.len()),
     }
-}
-
-fn is_space(byte: u8) -> bool
-    ensures { result ≡ is_space byte }
-{
-    byte == b' ' || byte == b'\t'
 }
 
 // Without the last byte, if that is `byte`.

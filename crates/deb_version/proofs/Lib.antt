@@ -1,5 +1,7 @@
 pub mod Beginnings
 pub mod Cuts
+pub mod Epochs
 pub mod Keys
 pub mod Numbers
 pub mod Turns
+pub mod VersionBytes

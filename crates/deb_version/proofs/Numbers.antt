@@ -1,5 +1,5 @@
 -- Runs of digits are compared as numbers by their lengths and bytes, once leading zeros are dropped.
-use Rattle.std.proofs.Common.{◌≡◌, ℕ, suc, ◌+◌, ◌-◌, ◌*◌, ◌<◌, ◌≤◌, ◌≢◌, List, [], ◌∷◌, Bool, true, false, cond, length, drop, refl, ap, sym, ◌∙◌, arith, nat_lt, nat_le, ◌==◌}
+use Rattle.std.proofs.Common.{◌≡◌, ℕ, suc, ◌+◌, ◌*◌, ◌<◌, ◌≤◌, ◌≢◌, List, [], ◌∷◌, Bool, true, false, cond, length, drop, refl, ap, sym, ◌∙◌, arith, ◌==◌}
 use Rattle.std.specs.List.{list_all, prefix_len}
 use Rattle.std.specs.Char.{is_ascii_digit, digit_value}
 use Rattle.std.specs.Str.Parse.{digits_value_after}
@@ -10,22 +10,8 @@ use Rattle.std.specs.Ordering.{nat_cmp, ordering_then, MatchOrdering}
 use Rattle.std.specs.Cmp.{nat_cmp_is, ranks}
 use Rattle.std.proofs.lemmas.Bool.{and_parts}
 use Rattle.std.proofs.lemmas.Bool.Decides.{nat_tests}
-use Rattle.deb_version.specs.VersionOrder.{number}
-
--- the value of a digit
-record Digit (c : ℕ) : Type 0 where
-  low : 48 ≤ c
-  high : c ≤ 57
-  value : digit_value c ≡ c - 48
-
-digit : (c : ℕ) → is_ascii_digit c ≡ true → Digit c
-digit c h =
-    let both : (nat_le 48 c ≡ true) × (nat_le c 57 ≡ true) = and_parts (nat_le 48 c) (nat_le c 57) h in
-    let a : 48 ≤ c = grind (arith, nat_tests) in
-    let b : c ≤ 57 = grind (arith, nat_tests) in
-    let p : nat_lt c 48 ≡ false = grind (arith, nat_tests) in
-    let q : nat_lt c 58 ≡ true = grind (arith, nat_tests) in
-    record { low = a; high = b; value = rw (p, q) refl }
+use Rattle.ascii.specs.Decimals.{number}
+use Rattle.ascii.proofs.Decimals.{Digit, digit_from}
 
 abbrev after : ℕ → List ℕ → ℕ
 after n ds = digits_value_after 10 n ds
@@ -39,7 +25,7 @@ after_less n m [] (e ∷ es) p q s lt =
 after_less n m (d ∷ ds) (e ∷ es) p q s lt =
     let ps = and_parts (is_ascii_digit d) (list_all is_ascii_digit ds) p in
     let qs = and_parts (is_ascii_digit e) (list_all is_ascii_digit es) q in
-    let small : digit_value d ≤ 9 = omega (arith, (digit d ps.0).value, (digit d ps.0).high) in
+    let small : digit_value d ≤ 9 = omega (arith, (digit_from d ps.0).value, (digit_from d ps.0).high) in
     after_less (n * 10 + digit_value d) (m * 10 + digit_value e) ds es ps.1 qs.1 (omega arith) (omega (arith, small))
 
 -- as many digits behind one number are compared as their bytes are
@@ -50,8 +36,8 @@ after_cmp n (d ∷ ds) [] p q s = absurd (omega arith)
 after_cmp n (d ∷ ds) (e ∷ es) p q s =
     let ps = and_parts (is_ascii_digit d) (list_all is_ascii_digit ds) p in
     let qs = and_parts (is_ascii_digit e) (list_all is_ascii_digit es) q in
-    let dv = digit d ps.0 in
-    let ev = digit e qs.0 in
+    let dv = digit_from d ps.0 in
+    let ev = digit_from e qs.0 in
     let size : length ds ≡ length es = omega arith in
     let left : MatchOrdering (nat_cmp d e) (d < e) (d ≡ e) (e < d) = ranks d e in
     by_first n d e ds es (nat_cmp d e) left ps.1 qs.1 dv ev size (after_cmp (n * 10 + digit_value d) ds es ps.1 qs.1 size)
@@ -114,7 +100,7 @@ longer_more : (ds es : List ℕ) → list_all is_ascii_digit ds ≡ true → lis
 longer_more ds [] p q up lt = absurd (omega arith)
 longer_more ds (e ∷ es) p q up lt =
     let qs = and_parts (is_ascii_digit e) (list_all is_ascii_digit es) q in
-    let ev = digit e qs.0 in
+    let ev = digit_from e qs.0 in
     let some : 0 < 0 * 10 + digit_value e = omega (arith, ev.value, ev.low, up) in
     after_less 0 (0 * 10 + digit_value e) ds es p qs.1 (omega arith) some
 

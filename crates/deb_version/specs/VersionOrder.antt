@@ -2,10 +2,10 @@
 use Rattle.std.specs.Prelude.{◌≡◌, ℕ, zero, suc, ◌+◌, Bool, true, cond, not, List, [], ◌∷◌, ◌++◌, map, length, drop, ◌==◌, ℤ, pos, negsuc, take_while}
 use Rattle.std.specs.List.{prefix_len}
 use Rattle.std.specs.Char.{is_ascii_digit, is_ascii_alphabetic}
-use Rattle.std.specs.Str.Parse.{digits_value}
 use Rattle.std.specs.declared.cmp.Ordering.{Ordering}
 use Rattle.std.specs.declared.cmp.Ordering.TheVariants.{Equal}
 use Rattle.std.specs.Ordering.{nat_cmp, int_cmp, ordering_then, ordering_reverse, is_le}
+pub use Rattle.ascii.specs.Decimals.{number}
 use Rattle.deb_version.specs.Versions.{Parts}
 
 -- where a byte that is no digit stands: '~' before the end of the text, which counts 0, then letters, then all other bytes
@@ -27,10 +27,6 @@ digits_of part = take_while is_ascii_digit (behind_word part)
 
 abbrev pub behind_digits : List ℕ → List ℕ
 behind_digits part = drop (prefix_len is_ascii_digit (behind_word part)) (behind_word part)
-
--- the number that digits write, 0 where there are none
-abbrev pub number : List ℕ → ℕ
-number digits = digits_value 10 digits
 
 -- The key of a part: for each turn the ranks of its word, then 0, then its number. There are at most `turns` turns.
 abbrev pub key_by_turns : ℕ → List ℕ → List ℤ

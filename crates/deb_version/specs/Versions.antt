@@ -1,19 +1,15 @@
 -- Versions of Debian packages: [epoch:]upstream[-revision] (Debian Policy 5.6.12). Texts and parts are lists of bytes.
-use Rattle.std.specs.Prelude.{ℕ, ◌≤◌, Bool, cond, not, ◌&&◌, ◌||◌, List, [], ◌++◌, length, take, nat_lt, ◌==◌, Option, Some, None, IsTrue}
-use Rattle.std.specs.List.{list_any, list_all, before_first, after_first, before_last, after_last}
+use Rattle.std.specs.Prelude.{ℕ, ◌≤◌, Bool, cond, not, ◌&&◌, ◌||◌, List, [], ◌++◌, length, take, ◌==◌, Option, Some, None, IsTrue}
+use Rattle.std.specs.List.{list_any, before_first, after_first, before_last, after_last}
 use Rattle.std.specs.Char.{is_ascii_digit, is_ascii_alphanumeric}
+pub use Rattle.ascii.specs.Bytes.{is_colon, is_hyphen}
+pub use Rattle.ascii.specs.Texts.{is_some_of}
 
 -- the three parts; a missing epoch or revision has no bytes
 pub record Parts : Type 0 where
   pub epoch : List ℕ
   pub upstream : List ℕ
   pub revision : List ℕ
-
-abbrev pub is_colon : ℕ → Bool
-is_colon byte = byte == 58
-
-abbrev pub is_hyphen : ℕ → Bool
-is_hyphen byte = byte == 45
 
 -- whether a text has an epoch, and what stands before its first colon
 abbrev pub has_epoch : List ℕ → Bool
@@ -39,10 +35,6 @@ revision_of text = cond (has_revision text) (after_last is_hyphen (rest_of text)
 -- the parts of any text
 abbrev pub parts : List ℕ → Parts
 parts text = record { epoch = epoch_of text; upstream = upstream_of text; revision = revision_of text }
-
--- one byte or more, each of which passes
-abbrev pub is_some_of : (ℕ → Bool) → List ℕ → Bool
-is_some_of test bytes = nat_lt 0 (length bytes) && list_all test bytes
 
 -- the bytes of a revision: letters, digits, '+', '.' and '~'
 abbrev pub is_revision_byte : ℕ → Bool

@@ -19,7 +19,8 @@ use Rattle.dep_fields.specs.Tokens.{behind}
 use Rattle.dep_fields.specs.Relationships.{Relationship, relationship_of}
 use Rattle.dep_fields.specs.Fields.{Span, pieces, parts_left, comma, bar, is_nil, is_separator, has_none, is_empty_group, spans_in, part_fault, first_fault, reads, items_in, items_of, IsFirstGroup, Answered, behind_comma, behind_group}
 use Rattle.dep_fields.specs.Cuts.{IsCut, IsFirstSpan}
-use Rattle.dep_fields.proofs.Runs.{behind-skip, blank-separator, behind_group-append}
+use Rattle.ascii.proofs.Texts.{behind-skip}
+use Rattle.dep_fields.proofs.Runs.{blank-separator, behind_group-append}
 
 -- the first part ends at the first mark
 pub pieces-first : (mark : ℕ) (text : List ℕ) (i : ℕ) → position_or_len (λ (b : ℕ). b == mark) text ≡ i → i < length text

@@ -1,44 +1,11 @@
--- Runs of bytes at the front of a text.
-use Rattle.std.proofs.Common.{◌≡◌, ℕ, suc, ◌+◌, Bool, true, false, cond, not, ◌&&◌, ◌==◌, List, [], ◌∷◌, ◌++◌, length, drop, refl, ap, ◌∙◌, arith}
-use Rattle.std.specs.List.{list_all, prefix_len, take_while}
-use Rattle.std.proofs.lemmas.List.Sums.{take_while-cons}
-use Rattle.std.proofs.lemmas.Bool.{and_from, and_parts}
-use Rattle.std.proofs.lemmas.Bool.Decides.{nat_tests}
-use Rattle.dep_fields.specs.Tokens.{is_blank, behind}
+-- Blanks, commas and groups at the front of a text.
+use Rattle.std.proofs.Common.{◌≡◌, ℕ, Bool, true, false, cond, not, ◌&&◌, ◌==◌, List, [], ◌∷◌, ◌++◌, refl, ap, ◌∙◌}
+use Rattle.std.specs.List.{list_all}
+use Rattle.std.proofs.lemmas.Bool.{and_parts}
+use Rattle.ascii.specs.Texts.{behind}
+use Rattle.ascii.proofs.Texts.{behind-cons}
+use Rattle.dep_fields.specs.Tokens.{is_blank}
 use Rattle.dep_fields.specs.Fields.{is_separator, comma, has_none, behind_comma, behind_group}
-
--- what stands behind a run, at a first byte
-pub behind-cons : (p : ℕ → Bool) (x : ℕ) (xs : List ℕ) → behind p (x ∷ xs) ≡ cond (p x) (behind p xs) (x ∷ xs)
-behind-cons p x xs = by (p x)
-  where
-    by : (b : Bool) → drop (cond b (1 + prefix_len p xs) 0) (x ∷ xs) ≡ cond b (behind p xs) (x ∷ xs)
-    by true = let e : 1 + prefix_len p xs ≡ suc (prefix_len p xs) = omega arith in ap (λ n. drop n (x ∷ xs)) e
-    by false = refl
-
--- each byte of a run passes
-pub all-run : (p : ℕ → Bool) (xs : List ℕ) → list_all p (take_while p xs) ≡ true
-all-run p [] = refl
-all-run p (x ∷ xs) = ap (list_all p) (take_while-cons p x xs) ∙ by (p x) refl (all-run p xs)
-  where
-    by : (b : Bool) → p x ≡ b → list_all p (take_while p xs) ≡ true → list_all p (cond b (x ∷ take_while p xs) []) ≡ true
-    by true e h = and_from (p x) (list_all p (take_while p xs)) e h
-    by false e h = refl
-
--- nothing stands behind a run exactly where each byte passes
-pub behind-none : (p : ℕ → Bool) (xs : List ℕ) → (length (behind p xs) == 0) ≡ list_all p xs
-behind-none p [] = refl
-behind-none p (x ∷ xs) = ap (λ (l : List ℕ). length l == 0) (behind-cons p x xs) ∙ by (p x) (behind-none p xs)
-  where
-    by : (b : Bool) → (length (behind p xs) == 0) ≡ list_all p xs → (length (cond b (behind p xs) (x ∷ xs)) == 0) ≡ (b && list_all p xs)
-    by true h = h
-    by false h = grind (arith, nat_tests)
-
--- a run goes on behind bytes that pass
-pub behind-skip : (p : ℕ → Bool) (xs ys : List ℕ) → list_all p xs ≡ true → behind p (xs ++ ys) ≡ behind p ys
-behind-skip p [] ys h = refl
-behind-skip p (x ∷ xs) ys h =
-    let parts = and_parts (p x) (list_all p xs) h in
-    behind-cons p x (xs ++ ys) ∙ ap (λ b. cond b (behind p (xs ++ ys)) (x ∷ (xs ++ ys))) parts.0 ∙ behind-skip p xs ys parts.1
 
 -- blanks are separators
 pub blank-separator : (xs : List ℕ) → list_all is_blank xs ≡ true → list_all is_separator xs ≡ true

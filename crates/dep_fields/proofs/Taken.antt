@@ -9,10 +9,10 @@ use Rattle.std.proofs.lemmas.List.Folds.{list_all-append}
 use Rattle.deb_version.specs.Versions.{is_version, parts}
 use Rattle.dep_fields.specs.declared.Op.{Op}
 use Rattle.dep_fields.specs.declared.Op.TheVariants as op
-use Rattle.dep_fields.specs.Tokens.{is_blank, is_name_byte, is_arch_byte, is_in_version, is_name, begins_with, behind, run_at, some_token, name_at, arch_at, version_at, less_at, more_at, op_at, close_at}
+use Rattle.dep_fields.specs.Tokens.{is_blank, is_name_byte, is_arch_byte, is_in_version, is_name, begins, behind, run_at, some_token, name_at, arch_at, version_at, less_at, more_at, op_at, close_at}
 use Rattle.dep_fields.specs.Relationships.{Relationship, VersionBound, ◌>>=◌, bound_at, some_bound, rel_at, relationship_at}
 use Rattle.dep_fields.specs.Grammar.{are_blanks, IsOp, arch_text, IsArch, IsItem}
-use Rattle.dep_fields.proofs.Runs.{all-run}
+use Rattle.lists.proofs.Tests.{list_all-prefix}
 
 -- ---- options
 
@@ -46,7 +46,7 @@ run-taken : (test : ℕ → Bool) (is_token : List ℕ → Bool) (text : List �
 run-taken test is_token text read h =
     let c = chosen (is_token (take_while test text)) (take_while test text, behind test text) read h in
     let P : List ℕ × List ℕ → Type 0 = λ r. Run test is_token text r in
-    subst P c.1 (record { whole = sym (take-append-drop (prefix_len test text) text); passes = all-run test text; token = c.0 })
+    subst P c.1 (record { whole = sym (take-append-drop (prefix_len test text) text); passes = list_all-prefix test text; token = c.0 })
 
 -- the value and the rest that were read
 abbrev TakesName : List ℕ → List ℕ × List ℕ → Type 0
@@ -55,7 +55,7 @@ TakesName text read = (text ≡ read.0 ++ read.1) × (is_name read.0 ≡ true)
 name-taken : (text : List ℕ) (read : List ℕ × List ℕ) → name_at text ≡ Some read → TakesName text read
 unfolding name_at
 name-taken text read h =
-    let run = run-taken is_name_byte (begins_with is_ascii_alphanumeric) text read h in
+    let run = run-taken is_name_byte (begins is_ascii_alphanumeric) text read h in
     (run.whole, and_from _ _ run.token run.passes)
 
 abbrev TakesVersion : List ℕ → List ℕ × List ℕ → Type 0
@@ -75,10 +75,10 @@ unfolding arch_at
 arch-taken [] read h = subst (λ (r : Option (List ℕ) × List ℕ). TakesArch [] r) (some-same (None, []) read h) (refl, tt)
 arch-taken (byte ∷ text) read h = by (byte == 58) refl h
   where
-    by : (b : Bool) → (byte == 58) ≡ b → cond b (option_map some_token (run_at is_arch_byte (begins_with is_arch_byte) text)) (Some (None, byte ∷ text)) ≡ Some read → TakesArch (byte ∷ text) read
+    by : (b : Bool) → (byte == 58) ≡ b → cond b (option_map some_token (run_at is_arch_byte (begins is_arch_byte) text)) (Some (None, byte ∷ text)) ≡ Some read → TakesArch (byte ∷ text) read
     by true e h =
-        let m = map-some some_token (run_at is_arch_byte (begins_with is_arch_byte) text) read h in
-        let run = run-taken is_arch_byte (begins_with is_arch_byte) text m.0 m.1 in
+        let m = map-some some_token (run_at is_arch_byte (begins is_arch_byte) text) read h in
+        let run = run-taken is_arch_byte (begins is_arch_byte) text m.0 m.1 in
         let whole : byte ∷ text ≡ 58 ∷ (m.0.0 ++ m.0.1) = ap (λ (b : ℕ). b ∷ text) (eqb-true byte 58 e) ∙ ap (λ (t : List ℕ). 58 ∷ t) run.whole in
         subst (λ (r : Option (List ℕ) × List ℕ). TakesArch (byte ∷ text) r) m.2 (whole, and_from _ _ run.token run.passes)
     by false e h = subst (λ (r : Option (List ℕ) × List ℕ). TakesArch (byte ∷ text) r) (some-same (None, byte ∷ text) read h) (refl, tt)
@@ -168,9 +168,9 @@ bound-taken text read h =
       op_blanks = take_while is_blank a.0.1;
       version_blanks = take_while is_blank b.0.1;
       whole = joined text _ _ sign.0 a.0.1 _ _ b.0.0 b.0.1 _ (41 ∷ c.0) (blank-run text) sign.2 (blank-run a.0.1) version.0 (blank-run b.0.1 ∙ ap (λ (x : List ℕ). take_while is_blank b.0.1 ++ x) close);
-      blanks_are = all-run is_blank text;
-      op_blanks_are = all-run is_blank a.0.1;
-      version_blanks_are = all-run is_blank b.0.1;
+      blanks_are = list_all-prefix is_blank text;
+      op_blanks_are = list_all-prefix is_blank a.0.1;
+      version_blanks_are = list_all-prefix is_blank b.0.1;
       operator_is = sign.1;
       version_is = version.1;
       parts_are = refl;
@@ -220,7 +220,7 @@ item-from text blanks name arch name_blanks behind_blanks None rest whole b n na
         rel = [];
         whole = refl;
         blanks_are = b;
-        name_blanks_are = list_all-append is_blank name_blanks more ∙ and_from _ _ n (all-run is_blank rest);
+        name_blanks_are = list_all-append is_blank name_blanks more ∙ and_from _ _ n (list_all-prefix is_blank rest);
         name_is = name_is;
         arch_is = arch_is;
         rel_is = refl;
@@ -254,7 +254,7 @@ item-from text blanks name arch name_blanks behind_blanks (Some bound) rest whol
           blanks_are = t.blanks_are;
           op_blanks_are = t.op_blanks_are;
           version_blanks_are = t.version_blanks_are;
-          last_blanks_are = all-run is_blank rest;
+          last_blanks_are = list_all-prefix is_blank rest;
           operator_is = t.operator_is;
           version_is = t.version_is;
           parts_are = t.parts_are;
@@ -277,4 +277,4 @@ item-taken text read h =
     = blank-run text ∙ ap (λ (x : List ℕ). take_while is_blank text ++ x) (name.0 ∙ ap (λ (x : List ℕ). a.0.0 ++ x) (arch.0 ∙ ap (λ (x : List ℕ). arch_text b.0.0 ++ x) (blank-run b.0.1))) in
     let P : Relationship × List ℕ → Type 0 = λ r. Takes text r.0 r.1 in
     subst P (some-same _ read c.2) (item-from text (take_while is_blank text) a.0.0 b.0.0 (take_while is_blank b.0.1) (behind is_blank b.0.1) c.0.0 c.0.1
-    whole (all-run is_blank text) (all-run is_blank b.0.1) name.1 arch.1 rel)
+    whole (list_all-prefix is_blank text) (list_all-prefix is_blank b.0.1) name.1 arch.1 rel)

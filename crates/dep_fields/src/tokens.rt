@@ -3,7 +3,7 @@
 ghost use Rattle.std.specs.Prelude.{◌≡◌, ◌≤◌, ◌==◌, ℕ, option_map, option_copied, take_while, length};
 ghost use Rattle.std.specs.List.{list_all, prefix_len};
 ghost use Rattle.std.specs.Char.{is_ascii_alphanumeric};
-ghost use Rattle.dep_fields.specs.Tokens.{is_blank, is_name_byte, is_arch_byte, is_in_version, is_name, behind, begins_with, run_at, some_token, name_at, arch_at, version_at, op_at, close_at, less_at, more_at};
+ghost use Rattle.dep_fields.specs.Tokens.{is_blank, is_name_byte, is_arch_byte, is_in_version, is_name, behind, begins, run_at, some_token, name_at, arch_at, version_at, op_at, close_at, less_at, more_at};
 ghost use Rattle.dep_fields.specs.TokenViews.{has, name_view, arch_view, version_view, op_view};
 
 use crate::Op;
@@ -79,7 +79,7 @@ pub fn skip_blanks(text: &[u8]) -> &[u8]
 
 // Whether the first byte of a name may stand there.
 fn begins_name(run: &[u8]) -> bool
-    ensures { result ≡ begins_with is_ascii_alphanumeric run.now }
+    ensures { result ≡ begins is_ascii_alphanumeric run.now }
 {
     match run {
         [first, ..] => first.is_ascii_alphanumeric(),
@@ -93,8 +93,8 @@ fn all_name_bytes(text: &[u8]) -> bool
     text.iter().all(|byte| is_name_byte(*byte))
 }
 
-/// Whether a text is a package name (Debian Policy 5.6.7): one byte or more, each an ASCII letter,
-/// a digit or one of `+`, `-`, `.` and `_`, the first a letter or a digit.
+/// Whether a text is a package name: one byte or more, each an ASCII letter, a digit or one of `+`,
+/// `-`, `.` and `_`, the first a letter or a digit. Debian Policy 5.6.1 allows fewer names.
 pub fn is_package_name(text: &[u8]) -> bool
     ensures { result ≡ is_name text.now }
 {
@@ -114,7 +114,7 @@ pub fn read_name(text: &[u8]) -> Option<(&[u8], &[u8])>
 }
 
 fn read_run_of_arch(text: &[u8]) -> Option<(Option<&[u8]>, &[u8])>
-    ensures { option_map arch_view result ≡ option_map some_token (run_at is_arch_byte (begins_with is_arch_byte) text.now) }
+    ensures { option_map arch_view result ≡ option_map some_token (run_at is_arch_byte (begins is_arch_byte) text.now) }
 {
     let (arch, rest) = split_run(text, Class::Arch);
     if arch.is_empty() {

@@ -1,9 +1,9 @@
 -- Tests of all or some of a list, and what they find.
-use Rattle.std.proofs.Common.{◌≡◌, ℕ, zero, suc, ◌+◌, ◌≤◌, List, [], ◌∷◌, ◌++◌, Bool, true, false, not, cond, ◌||◌, length, get_or, take, drop, map, reverse, refl, ap, sym, ◌∙◌, arith, nat_lt}
+use Rattle.std.proofs.Common.{◌≡◌, ℕ, zero, suc, ◌+◌, ◌≤◌, List, [], ◌∷◌, ◌++◌, Bool, true, false, not, cond, ◌||◌, Some, None, length, position, get_or, take, drop, map, reverse, refl, ap, sym, ◌∙◌, arith, nat_lt}
 use mathlib.Core.List.{reverse_aux}
 use Rattle.std.specs.List.{list_all, list_any, filter, prefix_len, position_or_len}
 use Rattle.std.proofs.Math.Bool.{or-false}
-use Rattle.std.proofs.lemmas.Bool.{and_from, and_parts}
+use Rattle.std.proofs.lemmas.Bool.{and_from, and_parts, ltb-false}
 use Rattle.std.proofs.lemmas.Bool.Decides.{nat_tests}
 use Rattle.std.proofs.lemmas.List.Folds.{list_all-append}
 
@@ -121,3 +121,24 @@ list_all-around p (x ∷ xs) zero a b d = and_from (p x) (list_all p xs) b d
 list_all-around p (x ∷ xs) (suc m) a b d =
     let both = and_parts (p x) (list_all p (take m xs)) a in
     and_from (p x) (list_all p xs) both.0 (list_all-around p xs m both.1 b d)
+
+-- the first place, where there is one
+position-chosen : {X : Type 0} (b : Bool) (x k : X) → Some k ≡ cond b (Some x) None → (b ≡ true) × (k ≡ x)
+position-chosen true x k e = (refl, cc)
+position-chosen false x k e = absurd (cc)
+
+position-not_chosen : {X : Type 0} (b : Bool) (x : X) → None ≡ cond b (Some x) None → b ≡ false
+position-not_chosen true x e = absurd (cc)
+position-not_chosen false x e = refl
+
+module _ {A : Type 0} (p : A → Bool) (xs : List A) where
+  pub position_some : (k : ℕ) → Some k ≡ position p xs → (list_any p xs ≡ true) × (k ≡ position_or_len p xs)
+  position_some k e =
+      let both = position-chosen (nat_lt (position_or_len p xs) (length xs)) (position_or_len p xs) k e in
+      (list_any-place p xs ∙ both.0, both.1)
+
+  pub position_none : None ≡ position p xs → list_any p xs ≡ false
+  position_none e = list_any-place p xs ∙ position-not_chosen (nat_lt (position_or_len p xs) (length xs)) (position_or_len p xs) e
+
+  pub position_none_past : None ≡ position p xs → length xs ≤ position_or_len p xs
+  position_none_past e = ltb-false (position_or_len p xs) (length xs) (position-not_chosen (nat_lt (position_or_len p xs) (length xs)) (position_or_len p xs) e)

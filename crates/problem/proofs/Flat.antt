@@ -4,7 +4,7 @@ use Rattle.std.specs.List.{list_all, slice_range, sum_by}
 use Rattle.std.proofs.lemmas.List.Sums.{sum_by_push}
 use Rattle.std.proofs.lemmas.List.{take-append-le, drop-append-le, length-drop, map-append}
 use Rattle.std.proofs.lemmas.List.Folds.{list_all-append}
-use Rattle.std.proofs.Math.Seq.{drop-append_seam}
+use Rattle.std.proofs.Math.Seq.{drop-append_seam, take-length}
 use Rattle.std.proofs.lemmas.Bool.{and_from, and_parts, leb-true, le-leb}
 use Rattle.problem.specs.declared.tables.Row.{Row}
 use Rattle.resolver_model.specs.Problems.{Dependency}
@@ -16,14 +16,10 @@ range_more xs ys a b h k =
     let enough : b - a ≤ length (drop a xs) = rw (length-drop a xs) (omega arith) in
     ap (λ zs. take (b - a) zs) (drop-append-le a xs ys start) ∙ take-append-le (b - a) (drop a xs) ys enough
 
-take_all : (xs : List ℕ) → take (length xs) xs ≡ xs
-take_all [] = refl
-take_all (x ∷ xs) = ap (λ ys. x ∷ ys) (take_all xs)
-
 pub range_end : (xs ys : List ℕ) → slice_range (xs ++ ys) (length xs) (length (xs ++ ys)) ≡ ys
 range_end xs ys =
     let few : length (xs ++ ys) - length xs ≡ length ys = omega (arith, length-append xs ys) in
-    rw (few, drop-append_seam xs ys) (take_all ys)
+    rw (few, drop-append_seam xs ys) (take-length ys)
 
 pub rows_more : (rows : List Row) (xs ys : List ℕ) → list_all (is_row xs) rows ≡ true → dependencies_of (xs ++ ys) rows ≡ dependencies_of xs rows
 rows_more [] xs ys h = refl

@@ -4,3 +4,6 @@ pub mod Kept
 pub mod Resolving
 pub mod Merged
 pub mod Sets
+pub mod Installs
+pub mod Listing
+pub mod Indexes

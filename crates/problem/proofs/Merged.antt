@@ -1,29 +1,24 @@
 -- The pieces, joined, are the resolvers.
-use Rattle.std.proofs.Common.{inl, inr, ◌==◌, ◌≡◌, ◌<◌, ◌≤◌, ◌⊎◌, ◌+◌, ℕ, zero, suc, List, [], ◌∷◌, ◌++◌, Bool, true, false, not, ◌&&◌, ◌||◌, cond, nat_lt, nat_le, nat_eq, arith, refl, ap, sym, ◌∙◌, subst}
-use Rattle.std.specs.List.{filter, list_all, list_any, find}
+use Rattle.std.proofs.Common.{inl, inr, ◌==◌, ◌≡◌, ◌<◌, ◌≤◌, ◌⊎◌, ◌+◌, ℕ, List, [], ◌∷◌, ◌++◌, Bool, true, false, not, ◌&&◌, ◌||◌, cond, nat_lt, nat_le, nat_eq, arith, refl, ap, sym, ◌∙◌, subst}
+use Rattle.std.specs.List.{list_all, list_any, find}
 use Rattle.std.specs.Option.{unwrap_or}
 use Rattle.std.proofs.lemmas.List.Folds.{list_any-append, list_all-append}
-use Rattle.std.proofs.lemmas.Bool.{and_from, or_cases, eqb-true, eq-eqb, leb-true, le-leb, ltb-true, lt-ltb, le-ltb, ltb-false}
+use Rattle.std.proofs.lemmas.Bool.{and_from, or_cases, eqb-true, eq-eqb, le-leb, ltb-true, lt-ltb, le-ltb, ltb-false}
 use Rattle.std.proofs.lemmas.Bool.Decides.{nat_tests}
-use Rattle.choice_set.specs.Sets.{is_rising, has}
-use Rattle.choice_set.proofs.Rising.{and_left, and_right, list_all_weaker, list_all-filter, is_rising-filter}
-use Rattle.resolver_model.specs.Problems.{Problem, IsWellFormed, below, version_count, package_count, dependency_count, dependency, package_of, start_of, changes, state, is_in_state, is_broken, is_open, is_install, leave_of, installs_of, is_install_resolver, is_resolver, resolvers}
+use Rattle.std.proofs.Math.Bool.{and-false}
+use Rattle.lists.proofs.Below.{is_rising-below, list_all-below, has-below}
+pub use Rattle.lists.proofs.Sets.{rising_same}
+use Rattle.lists.proofs.Sets.{is_rising-append, has-filter, is_rising-filter}
+use Rattle.lists.proofs.Tests.{list_all-filter_weaker, list_all_weaker, list_all-filter}
+use Rattle.lists.proofs.Truth.{and_first, and_second}
+use Rattle.lists.specs.Below.{below}
+use Rattle.lists.specs.Sets.{is_rising, has}
+use Rattle.resolver_model.specs.Problems.{Problem, IsWellFormed, version_count, package_count, dependency_count, dependency, package_of, start_of, changes, state, is_in_state, is_broken, is_open, is_install, leave_of, installs_of, is_install_resolver, is_resolver, resolvers}
 use Rattle.problem.specs.Places.{absent_of, end_of}
 use Rattle.problem.specs.Resolving.{is_free_install, free_targets, free_versions, leave_choices}
 use Rattle.problem.proofs.Ranges.{package_from, place_from, absent-le-end, end_of-range}
 
 -- Rising lists with the same members are equal.
-
-below_front : (x c : ℕ) (xs : List ℕ) → list_all (λ y. nat_lt x y) xs ≡ true → has xs c ≡ true → x < c
-below_front x c [] h m = absurd (cc)
-below_front x c (y ∷ xs) h m =
-    elim (or_cases (nat_eq y c) (has xs c) m) as (λ _. x < c) [
-      | inl e ↦ omega (arith, eqb-true y c e, ltb-true x y (and_left (nat_lt x y) (list_all (λ y. nat_lt x y) xs) h))
-      | inr there ↦ below_front x c xs (and_right (nat_lt x y) (list_all (λ y. nat_lt x y) xs) h) there
-    ]
-
-has_front : (x : ℕ) (xs : List ℕ) → has (x ∷ xs) x ≡ true
-has_front x xs = ap (λ r. r || has xs x) (eq-eqb x x refl)
 
 apart : (x c : ℕ) → x < c → nat_eq x c ≡ false
 apart x c lt = grind (arith, nat_tests)
@@ -31,116 +26,10 @@ apart x c lt = grind (arith, nat_tests)
 apart_back : (x c : ℕ) → c < x → nat_eq x c ≡ false
 apart_back x c lt = grind (arith, nat_tests)
 
--- the members of a list behind its least one
-same_rest : (x : ℕ) (xs ys : List ℕ) → list_all (λ y. nat_lt x y) xs ≡ true → list_all (λ y. nat_lt x y) ys ≡ true → ((c : ℕ) → has (x ∷ xs) c ≡ has (x ∷ ys) c) → (c : ℕ) → has xs c ≡ has ys c
-same_rest x xs ys h k same c =
-    elim (nat_lt x c) as (λ r. nat_lt x c ≡ r → has xs c ≡ has ys c) [
-      | true ↦ λ e.
-          let no : nat_eq x c ≡ false = apart x c (ltb-true x c e) in
-          let left : has (x ∷ xs) c ≡ has xs c = ap (λ r. r || has xs c) no in
-          let right : has (x ∷ ys) c ≡ has ys c = ap (λ r. r || has ys c) no in
-          sym left ∙ same c ∙ right
-      | false ↦ λ e. not_there xs h e ∙ sym (not_there ys k e)
-    ] refl
-  where
-    not_there : (zs : List ℕ) → list_all (λ y. nat_lt x y) zs ≡ true → nat_lt x c ≡ false → has zs c ≡ false
-    not_there zs a e =
-        elim (has zs c) as (λ r. has zs c ≡ r → r ≡ false) [
-          | true ↦ λ m. absurd (omega (arith, below_front x c zs a m, ltb-false x c e))
-          | false ↦ λ _. refl
-        ] refl
-
--- the least member of a rising list is in no list above it
-least_same : (x y : ℕ) (xs ys : List ℕ) → list_all (λ z. nat_lt y z) ys ≡ true → has (y ∷ ys) x ≡ true → y ≤ x
-least_same x y xs ys h m =
-    elim (or_cases (nat_eq y x) (has ys x) m) as (λ _. y ≤ x) [
-      | inl e ↦ omega (arith, eqb-true y x e)
-      | inr there ↦ omega (arith, below_front y x ys h there)
-    ]
-
-pub rising_same : (xs ys : List ℕ) → is_rising xs ≡ true → is_rising ys ≡ true → ((c : ℕ) → has xs c ≡ has ys c) → xs ≡ ys
-rising_same [] [] h k same = refl
-rising_same [] (y ∷ ys) h k same = let no : false ≡ true = same y ∙ has_front y ys in absurd (cc)
-rising_same (x ∷ xs) [] h k same = let no : false ≡ true = sym (same x) ∙ has_front x xs in absurd (cc)
-rising_same (x ∷ xs) (y ∷ ys) h k same =
-    let hx = and_left (list_all (λ z. nat_lt x z) xs) (is_rising xs) h in
-    let hy = and_left (list_all (λ z. nat_lt y z) ys) (is_rising ys) k in
-    let low : y ≤ x = least_same x y xs ys hy (sym (same x) ∙ has_front x xs) in
-    let high : x ≤ y = least_same y x ys xs hx (same y ∙ has_front y ys) in
-    let e : x ≡ y = omega arith in
-    let P : ℕ → Type 0 = λ z. (c : ℕ) → has (x ∷ xs) c ≡ has (z ∷ ys) c in
-    let Q : ℕ → Type 0 = λ z. list_all (λ w. nat_lt z w) ys ≡ true in
-    let rest : xs ≡ ys = rising_same xs ys (and_right (list_all (λ z. nat_lt x z) xs) (is_rising xs) h) (and_right (list_all (λ z. nat_lt y z) ys) (is_rising ys) k) (same_rest x xs ys hx (subst Q (sym e) hy) (subst P (sym e) same)) in
-    ap (λ z. z ∷ xs) e ∙ ap (λ zs. y ∷ zs) rest
-
 -- What is in a filter, in the numbers below one, and in a list joined of two.
 
-has_filter_here : (q : ℕ → Bool) (x : ℕ) (xs : List ℕ) (c : ℕ) → has (filter q xs) c ≡ (q c && has xs c) → nat_eq x c ≡ true → has (filter q (x ∷ xs)) c ≡ (q c && true)
-has_filter_here q x xs c rest e =
-    let same : q x ≡ q c = ap q (eqb-true x c e) in
-    elim (q c) as (λ r. q c ≡ r → has (cond (q x) (x ∷ filter q xs) (filter q xs)) c ≡ (r && true)) [
-      | true ↦ λ passes. ap (λ r. has (cond r (x ∷ filter q xs) (filter q xs)) c) (same ∙ passes) ∙ ap (λ r. r || has (filter q xs) c) e
-      | false ↦ λ fails. ap (λ r. has (cond r (x ∷ filter q xs) (filter q xs)) c) (same ∙ fails) ∙ rest ∙ ap (λ r. r && has xs c) fails
-    ] refl
-
-has_filter_there : (q : ℕ → Bool) (x : ℕ) (xs : List ℕ) (c : ℕ) → has (filter q xs) c ≡ (q c && has xs c) → nat_eq x c ≡ false → has (filter q (x ∷ xs)) c ≡ (q c && has xs c)
-has_filter_there q x xs c rest e =
-    elim (q x) as (λ r. has (cond r (x ∷ filter q xs) (filter q xs)) c ≡ (q c && has xs c)) [
-      | true ↦ ap (λ r. r || has (filter q xs) c) e ∙ rest
-      | false ↦ rest
-    ]
-
-has_filter : (q : ℕ → Bool) (xs : List ℕ) (c : ℕ) → has (filter q xs) c ≡ (q c && has xs c)
-has_filter q [] c = elim (q c) as (λ r. false ≡ (r && false)) [ true ↦ refl | false ↦ refl ]
-has_filter q (x ∷ xs) c =
-    elim (nat_eq x c) as (λ r. nat_eq x c ≡ r → has (filter q (x ∷ xs)) c ≡ (q c && (r || has xs c))) [
-      | true ↦ λ e. has_filter_here q x xs c (has_filter q xs c) e
-      | false ↦ λ e. has_filter_there q x xs c (has_filter q xs c) e
-    ] refl
-
-has_below : (n c : ℕ) → has (below n) c ≡ nat_lt c n
-has_below zero c = sym (le-ltb c 0 (omega arith))
-has_below (suc n) c =
-    list_any-append (λ x. nat_eq x c) (below n) (n ∷ []) ∙ ap (λ r. r || (nat_eq n c || false)) (has_below n c) ∙ last n c
-  where
-    last : (n c : ℕ) → (nat_lt c n || (nat_eq n c || false)) ≡ nat_lt c (suc n)
-    last n c = grind (arith, nat_tests)
-
-below_all_less : (n : ℕ) → list_all (λ c. nat_lt c n) (below n) ≡ true
-below_all_less zero = refl
-below_all_less (suc n) =
-    list_all-append (λ c. nat_lt c (suc n)) (below n) (n ∷ [])
-    ∙ and_from (list_all (λ c. nat_lt c (suc n)) (below n)) (nat_lt n (suc n) && true)
-    (list_all_weaker (λ c. nat_lt c n) (λ c. nat_lt c (suc n)) (λ c h. lt-ltb c (suc n) (omega (arith, ltb-true c n h))) (below n) (below_all_less n))
-    (and_from (nat_lt n (suc n)) true (lt-ltb n (suc n) (omega arith)) refl)
-
--- a test that says more, passed by all that a filter keeps
-filter_passes : (q r : ℕ → Bool) → ((c : ℕ) → q c ≡ true → r c ≡ true) → (xs : List ℕ) → list_all r (filter q xs) ≡ true
-filter_passes q r h [] = refl
-filter_passes q r h (x ∷ xs) =
-    elim (q x) as (λ s. q x ≡ s → list_all r (cond s (x ∷ filter q xs) (filter q xs)) ≡ true) [
-      | true ↦ λ e. and_from (r x) (list_all r (filter q xs)) (h x e) (filter_passes q r h xs)
-      | false ↦ λ _. filter_passes q r h xs
-    ] refl
-
--- two rising lists, of which one is below a number and the other is not
-rising_join : (m : ℕ) (xs ys : List ℕ) → is_rising xs ≡ true → is_rising ys ≡ true → list_all (λ x. nat_lt x m) xs ≡ true → list_all (λ y. nat_le m y) ys ≡ true → is_rising (xs ++ ys) ≡ true
-rising_join m [] ys h k low high = k
-rising_join m (x ∷ xs) ys h k low high =
-    let less : x < m = ltb-true x m (and_left (nat_lt x m) (list_all (λ x. nat_lt x m) xs) low) in
-    let behind : list_all (λ y. nat_lt x y) ys ≡ true = list_all_weaker (λ y. nat_le m y) (λ y. nat_lt x y) (λ y e. lt-ltb x y (omega (arith, leb-true m y e))) ys high in
-    and_from (list_all (λ y. nat_lt x y) (xs ++ ys)) (is_rising (xs ++ ys))
-    (list_all-append (λ y. nat_lt x y) xs ys ∙ and_from (list_all (λ y. nat_lt x y) xs) (list_all (λ y. nat_lt x y) ys) (and_left (list_all (λ y. nat_lt x y) xs) (is_rising xs) h) behind)
-    (rising_join m xs ys (and_right (list_all (λ y. nat_lt x y) xs) (is_rising xs) h) k (and_right (nat_lt x m) (list_all (λ x. nat_lt x m) xs) low) high)
-
-rising_below : (n : ℕ) → is_rising (below n) ≡ true
-rising_below zero = refl
-rising_below (suc n) =
-    let last : list_all (λ y. nat_le n y) (n ∷ []) ≡ true = and_from (nat_le n n) true (le-leb n n (omega arith)) refl in
-    rising_join n (below n) (n ∷ []) (rising_below n) refl (below_all_less n) last
-
 pub rising_resolvers : (p : Problem) (set : List ℕ) (d : ℕ) → is_rising (resolvers p set d) ≡ true
-rising_resolvers p set d = is_rising-filter (is_resolver p set d) (below (version_count p + dependency_count p)) (rising_below (version_count p + dependency_count p))
+rising_resolvers p set d = is_rising-filter (is_resolver p set d) (below (version_count p + dependency_count p)) (is_rising-below (version_count p + dependency_count p))
 
 -- The state of a package that a set does not change is its start version.
 
@@ -157,20 +46,16 @@ source_not_free : (p : Problem) (set : List ℕ) (d : ℕ) → is_open p set d �
 source_not_free p set d h =
     let source = (dependency p d).source in
     let q = package_of p source in
-    let broken : is_broken p set d ≡ true = and_left (is_broken p set d) (not ((dependency p d).soft && has set (leave_of p d))) h in
-    let shown : nat_eq (state p set q) source ≡ true = and_left (is_in_state p set source) (not (list_any (is_in_state p set) (dependency p d).targets)) broken in
+    let broken : is_broken p set d ≡ true = and_first (is_broken p set d) (not ((dependency p d).soft && has set (leave_of p d))) h in
+    let shown : nat_eq (state p set q) source ≡ true = and_first (is_in_state p set source) (not (list_any (is_in_state p set) (dependency p d).targets)) broken in
     elim (changes p set q) as (λ r. changes p set q ≡ r → (is_install p source && not r) ≡ false) [
-      | true ↦ λ _. and_none (is_install p source)
+      | true ↦ λ _. and-false (is_install p source)
       | false ↦ λ e.
           let start : start_of p q ≡ source = sym (find_none (installs_of p q) set (start_of p q) e) ∙ eqb-true (state p set q) source shown in
           let no : not (nat_eq (start_of p q) source) ≡ false = ap not (eq-eqb (start_of p q) source start) in
           ap (λ r. (nat_lt source (version_count p) && r) && true) no ∙ both_none (nat_lt source (version_count p))
     ] refl
   where
-    and_none : (a : Bool) → (a && false) ≡ false
-    and_none true = refl
-    and_none false = refl
-
     both_none : (a : Bool) → ((a && false) && true) ≡ false
     both_none true = refl
     both_none false = refl
@@ -257,8 +142,8 @@ installs_agree p w set d lt open_at c =
   where
     free_version : (p : Problem) (set : List ℕ) (c : ℕ) → is_free_install p set c ≡ true → c < version_count p
     free_version p set c h =
-        let install : is_install p c ≡ true = and_left (is_install p c) (not (changes p set (package_of p c))) h in
-        ltb-true c (version_count p) (and_left (nat_lt c (version_count p)) (not (nat_eq (start_of p (package_of p c)) c)) install)
+        let install : is_install p c ≡ true = and_first (is_install p c) (not (changes p set (package_of p c))) h in
+        ltb-true c (version_count p) (and_first (nat_lt c (version_count p)) (not (nat_eq (start_of p (package_of p c)) c)) install)
 
     free_apart : (p : Problem) (set : List ℕ) (d : ℕ) → is_open p set d ≡ true → (c : ℕ) → is_free_install p set c ≡ true → nat_eq c (dependency p d).source ≡ false
     free_apart p set d open_at c free =
@@ -305,11 +190,11 @@ has_pieces p set d first end c =
     let own = free_versions p set first end in
     let high = free_targets p set d end (version_count p) in
     let targets = (dependency p d).targets in
-    let in_low : has low c ≡ ((nat_le 0 c && nat_lt c first && is_free_install p set c) && has targets c) = has_filter (λ c. nat_le 0 c && nat_lt c first && is_free_install p set c) targets c in
+    let in_low : has low c ≡ ((nat_le 0 c && nat_lt c first && is_free_install p set c) && has targets c) = has-filter (λ c. nat_le 0 c && nat_lt c first && is_free_install p set c) targets c in
     let in_high : has high c ≡ ((nat_le end c && nat_lt c (version_count p) && is_free_install p set c) && has targets c) =
-    has_filter (λ c. nat_le end c && nat_lt c (version_count p) && is_free_install p set c) targets c in
+    has-filter (λ c. nat_le end c && nat_lt c (version_count p) && is_free_install p set c) targets c in
     let in_own : has own c ≡ ((nat_le first c && is_free_install p set c) && nat_lt c end) =
-    has_filter (λ c. nat_le first c && is_free_install p set c) (below end) c ∙ ap (λ r. (nat_le first c && is_free_install p set c) && r) (has_below end c) in
+    has-filter (λ c. nat_le first c && is_free_install p set c) (below end) c ∙ ap (λ r. (nat_le first c && is_free_install p set c) && r) (has-below end c) in
     list_any-append (λ x. nat_eq x c) ((low ++ own) ++ high) (leave_choices p d)
     ∙ ap (λ r. r || has (leave_choices p d) c) (list_any-append (λ x. nat_eq x c) (low ++ own) high ∙ ap (λ r. r || has high c) (list_any-append (λ x. nat_eq x c) low own))
     ∙ joined (has low c) (has own c) (has high c) (has (leave_choices p d) c) _ _ _ _ in_low in_own in_high (has_leave p d c)
@@ -321,16 +206,16 @@ resolver_less : (p : Problem) (set : List ℕ) (d c : ℕ) → d < dependency_co
 resolver_less p set d c lt h =
     elim (or_cases (is_install_resolver p set d c) ((dependency p d).soft && nat_eq c (leave_of p d)) h) as (λ _. c < version_count p + dependency_count p) [
       | inl install ↦
-          let free : is_free_install p set c ≡ true = and_left (is_free_install p set c) (has (dependency p d).targets c || is_other p d c) install in
-          let change : is_install p c ≡ true = and_left (is_install p c) (not (changes p set (package_of p c))) free in
-          omega (arith, ltb-true c (version_count p) (and_left (nat_lt c (version_count p)) (not (nat_eq (start_of p (package_of p c)) c)) change))
-      | inr leave ↦ omega (arith, eqb-true c (leave_of p d) (and_right (dependency p d).soft (nat_eq c (leave_of p d)) leave))
+          let free : is_free_install p set c ≡ true = and_first (is_free_install p set c) (has (dependency p d).targets c || is_other p d c) install in
+          let change : is_install p c ≡ true = and_first (is_install p c) (not (changes p set (package_of p c))) free in
+          omega (arith, ltb-true c (version_count p) (and_first (nat_lt c (version_count p)) (not (nat_eq (start_of p (package_of p c)) c)) change))
+      | inr leave ↦ omega (arith, eqb-true c (leave_of p d) (and_second (dependency p d).soft (nat_eq c (leave_of p d)) leave))
     ]
 
 has_resolvers : (p : Problem) (set : List ℕ) (d c : ℕ) → d < dependency_count p → has (resolvers p set d) c ≡ is_resolver p set d c
 has_resolvers p set d c lt =
     let count = version_count p + dependency_count p in
-    has_filter (is_resolver p set d) (below count) c ∙ ap (λ r. is_resolver p set d c && r) (has_below count c)
+    has-filter (is_resolver p set d) (below count) c ∙ ap (λ r. is_resolver p set d c && r) (has-below count c)
     ∙ elim (is_resolver p set d c) as (λ r. is_resolver p set d c ≡ r → (r && nat_lt c count) ≡ r) [
       | true ↦ λ e. lt-ltb c count (resolver_less p set d c lt e)
       | false ↦ λ _. refl
@@ -342,27 +227,27 @@ rising_pieces p w set d first end lt le max =
     let own = free_versions p set first end in
     let high = free_targets p set d end (version_count p) in
     let targets = (dependency p d).targets in
-    let rising : is_rising targets ≡ true = and_left (is_rising targets) (list_all (λ v. nat_lt v (version_count p)) targets) (w.targets d lt) in
+    let rising : is_rising targets ≡ true = and_first (is_rising targets) (list_all (λ v. nat_lt v (version_count p)) targets) (w.targets d lt) in
     let low_rises : is_rising low ≡ true = is_rising-filter (λ c. nat_le 0 c && nat_lt c first && is_free_install p set c) targets rising in
-    let own_rises : is_rising own ≡ true = is_rising-filter (λ c. nat_le first c && is_free_install p set c) (below end) (rising_below end) in
+    let own_rises : is_rising own ≡ true = is_rising-filter (λ c. nat_le first c && is_free_install p set c) (below end) (is_rising-below end) in
     let high_rises : is_rising high ≡ true = is_rising-filter (λ c. nat_le end c && nat_lt c (version_count p) && is_free_install p set c) targets rising in
     let low_less : list_all (λ c. nat_lt c first) low ≡ true =
-    filter_passes (λ c. nat_le 0 c && nat_lt c first && is_free_install p set c) (λ c. nat_lt c first) (λ c h. and_right (nat_le 0 c) (nat_lt c first) (and_left (nat_le 0 c && nat_lt c first) (is_free_install p set c) h)) targets in
+    list_all-filter_weaker (λ c. nat_le 0 c && nat_lt c first && is_free_install p set c) (λ c. nat_lt c first) (λ c h. and_second (nat_le 0 c) (nat_lt c first) (and_first (nat_le 0 c && nat_lt c first) (is_free_install p set c) h)) targets in
     let own_least : list_all (λ c. nat_le first c) own ≡ true =
-    filter_passes (λ c. nat_le first c && is_free_install p set c) (λ c. nat_le first c) (λ c h. and_left (nat_le first c) (is_free_install p set c) h) (below end) in
-    let own_less : list_all (λ c. nat_lt c end) own ≡ true = list_all-filter (λ c. nat_lt c end) (λ c. nat_le first c && is_free_install p set c) (below end) (below_all_less end) in
+    list_all-filter_weaker (λ c. nat_le first c && is_free_install p set c) (λ c. nat_le first c) (λ c h. and_first (nat_le first c) (is_free_install p set c) h) (below end) in
+    let own_less : list_all (λ c. nat_lt c end) own ≡ true = list_all-filter (λ c. nat_lt c end) (λ c. nat_le first c && is_free_install p set c) (below end) (list_all-below end) in
     let high_least : list_all (λ c. nat_le end c) high ≡ true =
-    filter_passes (λ c. nat_le end c && nat_lt c (version_count p) && is_free_install p set c) (λ c. nat_le end c) (λ c h. and_left (nat_le end c) (nat_lt c (version_count p)) (and_left (nat_le end c && nat_lt c (version_count p)) (is_free_install p set c) h)) targets in
+    list_all-filter_weaker (λ c. nat_le end c && nat_lt c (version_count p) && is_free_install p set c) (λ c. nat_le end c) (λ c h. and_first (nat_le end c) (nat_lt c (version_count p)) (and_first (nat_le end c && nat_lt c (version_count p)) (is_free_install p set c) h)) targets in
     let high_less : list_all (λ c. nat_lt c (version_count p)) high ≡ true =
-    filter_passes (λ c. nat_le end c && nat_lt c (version_count p) && is_free_install p set c) (λ c. nat_lt c (version_count p)) (λ c h. and_right (nat_le end c) (nat_lt c (version_count p)) (and_left (nat_le end c && nat_lt c (version_count p)) (is_free_install p set c) h)) targets in
-    let two : is_rising (low ++ own) ≡ true = rising_join first low own low_rises own_rises low_less own_least in
+    list_all-filter_weaker (λ c. nat_le end c && nat_lt c (version_count p) && is_free_install p set c) (λ c. nat_lt c (version_count p)) (λ c h. and_second (nat_le end c) (nat_lt c (version_count p)) (and_first (nat_le end c && nat_lt c (version_count p)) (is_free_install p set c) h)) targets in
+    let two : is_rising (low ++ own) ≡ true = is_rising-append first low own low_rises own_rises low_less own_least in
     let two_less : list_all (λ c. nat_lt c end) (low ++ own) ≡ true =
     list_all-append (λ c. nat_lt c end) low own ∙ and_from (list_all (λ c. nat_lt c end) low) (list_all (λ c. nat_lt c end) own) (more first end le low low_less) own_less in
-    let three : is_rising ((low ++ own) ++ high) ≡ true = rising_join end (low ++ own) high two high_rises two_less high_least in
+    let three : is_rising ((low ++ own) ++ high) ≡ true = is_rising-append end (low ++ own) high two high_rises two_less high_least in
     let three_less : list_all (λ c. nat_lt c (version_count p)) ((low ++ own) ++ high) ≡ true =
     list_all-append (λ c. nat_lt c (version_count p)) (low ++ own) high
     ∙ and_from (list_all (λ c. nat_lt c (version_count p)) (low ++ own)) (list_all (λ c. nat_lt c (version_count p)) high) (more end (version_count p) max (low ++ own) two_less) high_less in
-    rising_join (version_count p) ((low ++ own) ++ high) (leave_choices p d) three (leave_rises p d) three_less (leave_least p d)
+    is_rising-append (version_count p) ((low ++ own) ++ high) (leave_choices p d) three (leave_rises p d) three_less (leave_least p d)
   where
     more : (a b : ℕ) → a ≤ b → (xs : List ℕ) → list_all (λ c. nat_lt c a) xs ≡ true → list_all (λ c. nat_lt c b) xs ≡ true
     more a b h xs k = list_all_weaker (λ c. nat_lt c a) (λ c. nat_lt c b) (λ c e. lt-ltb c b (omega (arith, ltb-true c a e))) xs k

@@ -1,10 +1,11 @@
 -- The pieces that a dependency's resolvers are put together from.
 use Rattle.std.proofs.Common.{◌≡◌, ◌<◌, ◌≤◌, ◌+◌, ℕ, zero, suc, List, [], ◌∷◌, ◌++◌, Bool, true, false, ◌&&◌, nat_le, arith, refl, ap, ◌∙◌}
 use Rattle.std.specs.List.{filter}
-use Rattle.std.proofs.lemmas.Bool.{and_from, le-leb}
+use Rattle.std.proofs.lemmas.Bool.{and_from, le-leb, and_right}
 use Rattle.std.proofs.lemmas.Bool.Decides.{nat_tests}
-use Rattle.resolver_model.specs.Problems.{Problem, below}
-use Rattle.resolver_model.proofs.Below.{filter-below_yes, filter-below_no}
+use Rattle.lists.proofs.Below.{filter-below_yes, filter-below_no}
+use Rattle.lists.specs.Below.{below}
+use Rattle.resolver_model.specs.Problems.{Problem}
 use Rattle.problem.specs.Resolving.{is_free_install, free_versions}
 
 leb_below : (a b : ℕ) → b < a → nat_le a b ≡ false
@@ -29,8 +30,4 @@ pub free_versions_yes : (p : Problem) (set : List ℕ) (first v : ℕ) → first
 free_versions_yes p set first v le h = filter-below_yes (λ c. nat_le first c && is_free_install p set c) v (and_from (nat_le first v) _ (le-leb first v le) h)
 
 pub free_versions_no : (p : Problem) (set : List ℕ) (first v : ℕ) → is_free_install p set v ≡ false → free_versions p set first (v + 1) ≡ free_versions p set first v
-free_versions_no p set first v h = filter-below_no (λ c. nat_le first c && is_free_install p set c) v (and_false (nat_le first v) (is_free_install p set v) h)
-  where
-    and_false : (a b : Bool) → b ≡ false → (a && b) ≡ false
-    and_false true b h = h
-    and_false false b h = refl
+free_versions_no p set first v h = filter-below_no (λ c. nat_le first c && is_free_install p set c) v (and_right (nat_le first v) (is_free_install p set v) h)

@@ -2,5 +2,8 @@ pub mod Kinds
 pub mod Limits
 pub mod Builds
 pub mod Tables
+pub mod Listing
+pub mod Touching
+pub mod Indexes
 pub mod Places
 pub mod Resolving

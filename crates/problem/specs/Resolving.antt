@@ -1,7 +1,8 @@
 -- The pieces that the resolvers of an open dependency are put together from.
 use Rattle.std.specs.Prelude.{ℕ, Bool, not, ◌&&◌, List, [], ◌∷◌, nat_lt, nat_le, if◌then◌else◌}
 use Rattle.std.specs.List.{filter}
-use Rattle.resolver_model.specs.Problems.{Problem, below, dependency, leave_of, is_install, changes, package_of}
+use Rattle.lists.specs.Below.{below}
+use Rattle.resolver_model.specs.Problems.{Problem, dependency, leave_of, is_install, changes, package_of}
 
 -- an install on a package that the set does not change
 abbrev pub is_free_install : Problem → List ℕ → ℕ → Bool

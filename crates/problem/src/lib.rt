@@ -6,16 +6,20 @@
 //! dependency unmet, and has the number of versions plus the dependency's.
 #![tactic(auto)]
 
-ghost use Rattle.std.specs.Prelude.{vec_len, is_ok, if◌then◌else◌, ◌≡◌, ◌<◌, ◌≤◌, ◌+◌, ◌-◌, ◌^◌, ℕ, Bool, List, [], ◌∷◌, ◌++◌, length, slice_index, replicate, nat_lt, true, IsTrue, IfOk, OnOk, OnErr};
+ghost use Rattle.std.specs.Prelude.{vec_len, is_ok, if◌then◌else◌, ◌≡◌, ◌<◌, ◌≤◌, ◌+◌, ◌-◌, ◌^◌, ℕ, Bool, List, [], ◌∷◌, ◌++◌, length, slice_index, replicate, nat_lt, nat_le, ◌&&◌, true, IsTrue, IfOk, OnOk, OnErr, map};
 ghost use Rattle.std.specs.List.{list_all, list_any, find, count_by};
-ghost use Rattle.choice_set.specs.Sets.{is_rising};
+ghost use Rattle.lists.specs.Sets.{is_rising};
 ghost use Rattle.problem.specs.Kinds.{kind_of};
 ghost use Rattle.problem.specs.Limits.{end_past, IsAnswer, IsWithinLimits, package_refusal, dependency_refusal, target_count};
 ghost use Rattle.problem.specs.Builds.{no_packages, with_package, with_dependency, with_starts};
 ghost use Rattle.problem.specs.Places.{absent_of, end_of, IsOneOfEach};
+ghost use Rattle.problem.specs.Touching.{deps_of, deps_on, touching, broken_at_start, is_unmet};
+ghost use Rattle.problem.specs.Indexes.{with_dep, without_dep};
 ghost use Rattle.problem.specs.Resolving.{is_free_install, free_targets, free_versions, leave_choices};
 ghost use Rattle.resolver_model.specs.Problems.{is_choice, choices, installs_of, version_count, package_count, dependency_count, package_of, start_of, dependency, is_choice_set, is_install, is_leave, changes, state, is_in_state, is_consistent, is_broken, is_open, is_nothing_open, is_solution, resolvers, IsWellFormed};
 
+mod dep_lists;
+mod index;
 mod limits;
 mod tables;
 #[cfg(test)]
@@ -23,6 +27,7 @@ mod tests;
 
 use choice_set::ChoiceSet;
 pub use choice_set::NoMemory;
+use index::Index;
 pub use limits::{
     MOST_DEPENDENCIES, MOST_PACKAGES, MOST_TARGETS, MOST_VERSIONS, ProblemEnd, Which,
 };
@@ -51,6 +56,8 @@ pub struct Problem {
     // the first version of each package
     firsts: Vec<u32>,
     dependencies: Tables,
+    // which dependencies a version or a package has to do with, and which are broken at the start
+    index: Index,
 }
 
 impl Model for Problem {
@@ -61,7 +68,7 @@ impl Model for Problem {
 
     ghost view = { λ p. record { owners = p.owners.items; starts = p.starts.items; dependencies = p.dependencies } };
 
-    ghost invariant = { λ p. IsKept (record { owners = p.owners.items; starts = p.starts.items; dependencies = p.dependencies }) p.firsts.items };
+    ghost invariant = { λ p. IsKept (record { owners = p.owners.items; starts = p.starts.items; dependencies = p.dependencies }) p.firsts.items p.index };
 }
 
 impl Problem {
@@ -99,14 +106,85 @@ impl Problem {
         ensures ok { IfOk result (λ number. number ≡ package_count self.old) }
         ensures after { self.new ≡ (if is_ok result then with_package self.old present start else self.old) }
     {
-        let number = add_package(
+        let versions = self.owners.len();
+        let packages = self.starts.len();
+        self.index
+            .add_package(present as usize + 1, versions, packages)?;
+        match add_package(
             &mut self.owners,
             &mut self.starts,
             &mut self.firsts,
             present,
             start,
-        )?;
-        Ok(number)
+        ) {
+            Ok(number) => Ok(number),
+            Err(end) => {
+                self.index.cut(versions, packages);
+                Err(end)
+            }
+        }
+    }
+
+    // Whether a version would be a start version with these starts.
+    fn is_start(&self, starts: &[u32], version: u32) -> bool
+        requires starts { length starts.now ≡ package_count self.now }
+        requires version { version < version_count self.now }
+        ensures { result ≡ is_in_state (with_starts self.now starts.now) [] version }
+    {
+        starts[self.package_of(version) as usize] == version
+    }
+
+    // Whether one of the versions would be a start version with these starts.
+    fn is_any_start(&self, starts: &[u32], versions: &[u32]) -> bool
+        requires starts { length starts.now ≡ package_count self.now }
+        requires range { IsTrue (list_all (λ v. nat_lt v (version_count self.now)) versions.now) }
+        ensures { result ≡ list_any (is_in_state (with_starts self.now starts.now) []) versions.now }
+    {
+        for version in versions {
+            if self.is_start(starts, *version) {
+                return true;
+            }
+        }
+        false
+    }
+
+    // Whether a dependency would be broken at the empty set with these starts.
+    fn is_unmet(&self, starts: &[u32], source: u32, targets: &[u32]) -> bool
+        requires starts { length starts.now ≡ package_count self.now }
+        requires source { source < version_count self.now }
+        requires range { IsTrue (list_all (λ v. nat_lt v (version_count self.now)) targets.now) }
+        ensures { result ≡ is_unmet (with_starts self.now starts.now) source targets.now }
+    {
+        self.is_start(starts, source) && !self.is_any_start(starts, targets)
+    }
+
+    // The dependencies that would be broken at the empty set with these starts, rising.
+    fn unmet_with(&self, alloc: Global, starts: &[u32]) -> Result<Vec<u32>, NoMemory>
+        requires { length starts.now ≡ package_count self.now }
+        ensures { IfOk result (λ list. list.items ≡ broken_at_start (with_starts self.now starts.now)) }
+    {
+        let mut list = Vec::new(alloc);
+        for dep in 0..self.deps() {
+            if self.is_unmet(starts, self.source(dep), self.targets(dep)) {
+                list.push(dep)?;
+            }
+        }
+        Ok(list)
+    }
+
+    // The packages of a dependency's source and targets, in order.
+    fn packages_of(&self, source: u32, targets: &[u32]) -> Result<Vec<u32>, NoMemory>
+        requires source { source < version_count self.now }
+        requires range { IsTrue (list_all (λ v. nat_lt v (version_count self.now)) targets.now) }
+        ensures packages { IfOk result (λ list. list.items ≡ map (package_of self.now) (source ∷ targets.now)) }
+        ensures within { IfOk result (λ list. IsTrue (list_all (λ q. nat_lt q (package_count self.now)) list.items)) }
+    {
+        let mut list = Vec::new(*self.owners.allocator());
+        list.push(self.package_of(source))?;
+        for target in targets {
+            list.push(self.package_of(*target))?;
+        }
+        Ok(list)
     }
 
     // One more dependency, which no limit refuses.
@@ -119,7 +197,20 @@ impl Problem {
         ensures after { self.new ≡ (if is_ok result then with_dependency self.old (record { source = source; targets = targets.now; soft = soft }) else self.old) }
     {
         let number = self.dependencies.len() as u32;
-        self.dependencies.push(source, targets, soft)?;
+        let packages = self.packages_of(source, targets)?;
+        let is_broken = self.is_unmet(self.starts.as_slice(), source, targets);
+        add_dep(
+            &mut self.dependencies,
+            &mut self.index,
+            &Addition {
+                number,
+                source,
+                targets,
+                packages: packages.as_slice(),
+                soft,
+                is_broken,
+            },
+        )?;
         Ok(number)
     }
 
@@ -128,21 +219,18 @@ impl Problem {
         requires { IsOneOfEach self.now starts.now }
         ensures { IfOk result (λ other. other ≡ with_starts self.now starts.now) }
     {
-        let Ok(owners) = Vec::from_slice(alloc, self.owners.as_slice()) else {
-            return Err(NoMemory);
-        };
-        let Ok(starts) = Vec::from_slice(alloc, starts) else {
-            return Err(NoMemory);
-        };
-        let Ok(firsts) = Vec::from_slice(alloc, self.firsts.as_slice()) else {
-            return Err(NoMemory);
-        };
+        let owners = Vec::from_slice(alloc, self.owners.as_slice())?;
+        let starts = Vec::from_slice(alloc, starts)?;
+        let firsts = Vec::from_slice(alloc, self.firsts.as_slice())?;
+        let broken = self.unmet_with(alloc, starts.as_slice())?;
         let dependencies = self.dependencies.copy(alloc)?;
+        let index = self.index.with_broken(alloc, broken)?;
         Ok(Problem {
             owners,
             starts,
             firsts,
             dependencies,
+            index,
         })
     }
 
@@ -239,28 +327,57 @@ impl Problem {
         self.dependencies.targets(dep as usize)
     }
 
-    // Whether a choice installs a version of the package.
-    fn installs(&self, choice: u32, package: u32) -> bool
-        ensures { result ≡ installs_of self.now «package» choice }
+    /// The dependencies with this version as their source, rising. They are lent without memory.
+    pub fn deps_of(&self, version: u32) -> &[u32]
+        requires { version < version_count self.now }
+        ensures list { result.now ≡ deps_of self.now version }
+        ensures range { IsTrue (list_all (λ d. nat_lt d (dependency_count self.now)) result.now) }
     {
-        (choice as usize) < self.owners.len() && self.owners[choice as usize] == package
+        self.index.of(version)
+    }
+
+    /// The dependencies with this version among their targets, rising. They are lent without memory.
+    pub fn deps_on(&self, version: u32) -> &[u32]
+        requires { version < version_count self.now }
+        ensures list { result.now ≡ deps_on self.now version }
+        ensures range { IsTrue (list_all (λ d. nat_lt d (dependency_count self.now)) result.now) }
+    {
+        self.index.on(version)
+    }
+
+    /// The dependencies that have a version of the package as source or target, rising. They are lent without memory.
+    pub fn touching(&self, package: u32) -> &[u32]
+        requires { «package» < package_count self.now }
+        ensures list { result.now ≡ touching self.now «package» }
+        ensures range { IsTrue (list_all (λ d. nat_lt d (dependency_count self.now)) result.now) }
+    {
+        self.index.touching(package)
+    }
+
+    /// The dependencies that are broken at the empty set, rising. They are lent without memory.
+    pub fn broken_at_start(&self) -> &[u32]
+        ensures list { result.now ≡ broken_at_start self.now }
+        ensures range { IsTrue (list_all (λ d. nat_lt d (dependency_count self.now)) result.now) }
+    {
+        self.index.broken()
     }
 
     // Whether one of the choices installs a version of the package.
     fn any_installs(&self, items: &[u32], package: u32) -> bool
         ensures { result ≡ list_any (installs_of self.now «package») items.now }
     {
-        items.iter().any(|choice| self.installs(*choice, package))
+        self.first_install(items, package).is_some()
     }
 
     // The first of the choices that installs a version of the package.
     fn first_install(&self, items: &[u32], package: u32) -> Option<u32>
         ensures { result ≡ find (installs_of self.now «package») items.now }
     {
-        items
-            .iter()
-            .copied()
-            .find(|choice| self.installs(*choice, package))
+        let _ = &self.owners;
+        if package >= self.packages() {
+            return None;
+        }
+        first_within(items, self.absent_of(package), self.end_of(package))
     }
 
     /// Whether the set installs a version of the package.
@@ -387,9 +504,7 @@ impl Problem {
         let mut list = Vec::new(alloc);
         for number in 0..self.versions() + self.deps() {
             if self.is_choice(number) {
-                let Ok(()) = list.push(number) else {
-                    return Err(NoMemory);
-                };
+                list.push(number)?;
             }
         }
         Ok(list)
@@ -419,9 +534,7 @@ impl Problem {
     {
         for target in self.targets(dep) {
             if first <= *target && *target < end && self.is_free_install(set, *target) {
-                let Ok(()) = list.push(*target) else {
-                    return Err(NoMemory);
-                };
+                list.push(*target)?;
             }
         }
         Ok(())
@@ -440,9 +553,7 @@ impl Problem {
     {
         for version in first..end {
             if self.is_free_install(set, version) {
-                let Ok(()) = list.push(version) else {
-                    return Err(NoMemory);
-                };
+                list.push(version)?;
             }
         }
         Ok(())
@@ -455,9 +566,7 @@ impl Problem {
     {
         let leave = self.versions() + dep;
         if self.is_soft(dep) {
-            let Ok(()) = list.push(leave) else {
-                return Err(NoMemory);
-            };
+            list.push(leave)?;
         }
         Ok(())
     }
@@ -496,6 +605,16 @@ impl Model for Builder {
     ghost view = { λ b. b.problem };
 }
 
+// The first of the numbers from `first` to before `end`.
+fn first_within(numbers: &[u32], first: u32, end: u32) -> Option<u32>
+    ensures { result ≡ find (λ n. nat_le first n && nat_lt n end) numbers.now }
+{
+    numbers
+        .iter()
+        .copied()
+        .find(|number| first <= *number && *number < end)
+}
+
 // The end of a call whose count would exceed the most that there may be.
 fn limit(which: Which, most: usize) -> ProblemEnd
     requires { most < 2 ^ 32 }
@@ -525,9 +644,7 @@ fn add_package(
 {
     let number = starts.len() as u32;
     let first = owners.len() as u32;
-    let Ok(()) = starts.push(first + start) else {
-        return Err(NoMemory);
-    };
+    starts.push(first + start)?;
     let Ok(()) = firsts.push(first) else {
         let _ = starts.pop();
         return Err(NoMemory);
@@ -538,6 +655,59 @@ fn add_package(
         return Err(NoMemory);
     };
     Ok(number)
+}
+
+// A dependency to be added: its number, its source and targets, the packages of both, whether it is soft, and whether it
+// is broken at the start.
+#[derive(Drop)]
+struct Addition<'a> {
+    number: u32,
+    source: u32,
+    targets: &'a [u32],
+    packages: &'a [u32],
+    soft: bool,
+    is_broken: bool,
+}
+
+// One more dependency, which may stand in some lists of the index after want of memory.
+fn try_add_dep(
+    dependencies: &mut Tables,
+    index: &mut Index,
+    new: &Addition<'_>,
+) -> Result<(), NoMemory>
+    requires source { new.now.source < length index.old.of }
+    requires targets { IsTrue (list_all (λ k. nat_lt k (length index.old.on)) new.now.targets.now) }
+    requires packages { IsTrue (list_all (λ k. nat_lt k (length index.old.touching)) new.now.packages.now) }
+    ensures dependencies { dependencies.new ≡ (if is_ok result then dependencies.old ++ record { source = new.now.source; targets = new.now.targets.now; soft = new.now.soft } ∷ [] else dependencies.old) }
+    ensures index { OnOk result (index.new ≡ with_dep index.old new.now.number new.now.source new.now.targets.now new.now.packages.now new.now.is_broken) }
+    ensures rest { without_dep index.new new.now.number ≡ without_dep index.old new.now.number }
+{
+    index.note(
+        new.number,
+        new.source,
+        new.targets,
+        new.packages,
+        new.is_broken,
+    )?;
+    dependencies.push(new.source, new.targets, new.soft)
+}
+
+// One more dependency; nothing has changed after want of memory.
+fn add_dep(dependencies: &mut Tables, index: &mut Index, new: &Addition<'_>) -> Result<(), NoMemory>
+    requires source { new.now.source < length index.old.of }
+    requires targets { IsTrue (list_all (λ k. nat_lt k (length index.old.on)) new.now.targets.now) }
+    requires packages { IsTrue (list_all (λ k. nat_lt k (length index.old.touching)) new.now.packages.now) }
+    requires fresh { without_dep index.old new.now.number ≡ index.old }
+    ensures dependencies { dependencies.new ≡ (if is_ok result then dependencies.old ++ record { source = new.now.source; targets = new.now.targets.now; soft = new.now.soft } ∷ [] else dependencies.old) }
+    ensures index { index.new ≡ (if is_ok result then with_dep index.old new.now.number new.now.source new.now.targets.now new.now.packages.now new.now.is_broken else index.old) }
+{
+    match try_add_dep(dependencies, index, new) {
+        Ok(()) => Ok(()),
+        Err(end) => {
+            index.clear(new.number);
+            Err(end)
+        }
+    }
 }
 
 impl Builder {
@@ -551,6 +721,7 @@ impl Builder {
                 starts: Vec::new(alloc),
                 firsts: Vec::new(alloc),
                 dependencies: Tables::new(alloc),
+                index: Index::new(alloc),
             },
         }
     }
@@ -567,10 +738,7 @@ impl Builder {
         if let Some(end) = self.problem.package_refusal(present) {
             return Err(end);
         }
-        match self.problem.add_package(present, start) {
-            Ok(number) => Ok(number),
-            Err(_) => Err(ProblemEnd::NoMemory),
-        }
+        Ok(self.problem.add_package(present, start)?)
     }
 
     /// Adds a dependency of the version `source` on one of the rising `targets`, and gives its number. A soft one may be
@@ -585,10 +753,7 @@ impl Builder {
         if let Some(end) = self.problem.dependency_refusal(targets) {
             return Err(end);
         }
-        match self.problem.add_dep(source, targets, soft) {
-            Ok(number) => Ok(number),
-            Err(_) => Err(ProblemEnd::NoMemory),
-        }
+        Ok(self.problem.add_dep(source, targets, soft)?)
     }
 
     /// The problem as it is built so far.

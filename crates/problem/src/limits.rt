@@ -1,5 +1,7 @@
 //! How much one problem may have, and the ends of calls that meet a limit.
 
+use choice_set::NoMemory;
+
 /// How many packages a problem may have.
 pub const MOST_PACKAGES: usize = 200_000;
 
@@ -42,4 +44,15 @@ pub enum ProblemEnd {
     Limit { which: Which, count: u64 },
     /// There was not enough memory.
     NoMemory,
+}
+
+impl From<NoMemory> for ProblemEnd {
+    ghost use Rattle.std.specs.Prelude.{◌≡◌};
+    ghost use Rattle.problem.specs.declared.limits.ProblemEnd.TheVariants as problem_end;
+
+    ghost from_gives = { λ _ end. end ≡ problem_end.NoMemory };
+
+    fn from(_error: NoMemory) -> ProblemEnd {
+        ProblemEnd::NoMemory
+    }
 }

@@ -50,9 +50,7 @@ fn add_row(
     ensures view { dependencies_of table.new.items rows.new.items ≡ (if is_ok result then dependencies_of table.old.items rows.old.items ++ record { source = source; targets = targets.now; soft = soft } ∷ [] else dependencies_of table.old.items rows.old.items) }
 {
     let first = table.len();
-    let Ok(()) = table.extend_from_slice(targets) else {
-        return Err(NoMemory);
-    };
+    table.extend_from_slice(targets)?;
     let row = Row {
         source,
         first,
@@ -129,12 +127,8 @@ impl Tables {
     pub fn copy(&self, alloc: Global) -> Result<Tables, NoMemory>
         ensures { IfOk result (λ tables. tables ≡ self.now) }
     {
-        let Ok(rows) = Vec::from_slice(alloc, self.rows.as_slice()) else {
-            return Err(NoMemory);
-        };
-        match Vec::from_slice(alloc, self.targets.as_slice()) {
-            Ok(targets) => Ok(Tables { rows, targets }),
-            Err(_) => Err(NoMemory),
-        }
+        let rows = Vec::from_slice(alloc, self.rows.as_slice())?;
+        let targets = Vec::from_slice(alloc, self.targets.as_slice())?;
+        Ok(Tables { rows, targets })
     }
 }

@@ -1,11 +1,13 @@
 -- What a set lacks of another decides which one more choice makes it up.
-use Rattle.std.proofs.Common.{inl, inr, ◌≡◌, ◌≢◌, ◌<◌, ◌≤◌, ◌+◌, ℕ, zero, suc, List, [], ◌∷◌, Bool, true, false, cond, ◌&&◌, ◌||◌, length, get_or, drop, refl, ap, sym, subst, ◌∙◌, add-one, arith, nat_lt, nat_eq, IsTrue}
+use Rattle.std.proofs.Common.{inl, inr, ◌≡◌, ◌<◌, ◌≤◌, ◌+◌, ℕ, zero, suc, List, [], ◌∷◌, Bool, true, false, cond, ◌&&◌, ◌||◌, length, get_or, drop, refl, ap, sym, subst, ◌∙◌, add-one, arith, nat_lt, nat_eq}
 use Rattle.std.specs.List.{list_all}
-use Rattle.std.proofs.lemmas.Bool.{and_parts, eqb-true, eq-eqb, ltb-true, lt-ltb, false_from_ne_true}
+use Rattle.std.proofs.lemmas.Bool.{eqb-true, eq-eqb, ltb-true, false_from_ne_true}
 use Rattle.std.proofs.lemmas.Bool.Decides.{nat_tests}
-use Rattle.choice_set.specs.Sets.{is_rising, has, with, is_subset}
-use Rattle.choice_set.proofs.Rising.{and_left, and_right, below_all, has_none, is_rising-drop}
-use Rattle.resolver_model.proofs.With.{has-with_new, has-with_old, has-with_cases}
+use Rattle.std.proofs.Math.Bool.{or-false}
+use Rattle.lists.proofs.Sets.{below_all, has_none, is_rising-drop}
+use Rattle.lists.proofs.Truth.{and_first, and_second}
+use Rattle.lists.proofs.With.{has-with_new, has-with_old, has-with_cases}
+use Rattle.lists.specs.Sets.{is_rising, has, with, is_subset}
 use Rattle.promotions.specs.declared.near.Lack.{Lack}
 use Rattle.promotions.specs.declared.near.Lack.TheVariants.{Nothing, One, More}
 use Rattle.promotions.specs.Nearness.{one_more, lack_from, makes_up}
@@ -29,12 +31,8 @@ has_behind (x ∷ xs) n (suc place) at below c le =
 pub has_first : (xs : List ℕ) (n : ℕ) → is_rising xs ≡ true → 0 < length xs → n ≤ get_or xs 0 0 → has xs n ≡ nat_eq (get_or xs 0 0) n
 has_first [] n r lt le = absurd (omega arith)
 has_first (x ∷ xs) n r lt le =
-    let behind : has xs n ≡ false = has_none xs n (λ k at e. let up : x < get_or xs k 0 = below_all x xs (and_left _ _ r) k at in absurd (omega arith)) in
-    ap (λ b. nat_eq x n || b) behind ∙ or_false (nat_eq x n)
-  where
-    or_false : (a : Bool) → (a || false) ≡ a
-    or_false true = refl
-    or_false false = refl
+    let behind : has xs n ≡ false = has_none xs n (λ k at e. let up : x < get_or xs k 0 = below_all x xs (and_first _ _ r) k at in absurd (omega arith)) in
+    ap (λ b. nat_eq x n || b) behind ∙ or-false (nat_eq x n)
 
 get_or_drop : (xs : List ℕ) (place : ℕ) → get_or (drop place xs) 0 0 ≡ get_or xs place 0
 get_or_drop xs zero = refl
@@ -63,16 +61,16 @@ lack_more set (c ∷ part) = elim (has set c) as (λ b. lack_from set (cond b Mo
 lack_same : (rest from : List ℕ) (n : ℕ) (lack : Lack) (part : List ℕ) → list_all (λ y. nat_lt n y) part ≡ true → ((c : ℕ) → n ≤ c → has from c ≡ has rest c) → lack_from rest lack part ≡ lack_from from lack part
 lack_same rest from n lack [] above same = refl
 lack_same rest from n lack (c ∷ part) above same =
-    let up : n < c = ltb-true n c (and_left _ _ above) in
+    let up : n < c = ltb-true n c (and_first _ _ above) in
     let here : has from c ≡ has rest c = same c (omega arith) in
     ap (λ b. lack_from rest (cond b lack (one_more lack c)) part) (sym here)
-    ∙ lack_same rest from n (cond (has from c) lack (one_more lack c)) part (and_right (nat_lt n c) _ above) same
+    ∙ lack_same rest from n (cond (has from c) lack (one_more lack c)) part (and_second (nat_lt n c) _ above) same
 
 pub lack_step : (part rest from : List ℕ) (i : ℕ) (lack : Lack) → is_rising part ≡ true → i < length part → ((c : ℕ) → get_or part i 0 ≤ c → has from c ≡ has rest c)
     → lack_from rest lack (drop i part) ≡ lack_from from (cond (has rest (get_or part i 0)) lack (one_more lack (get_or part i 0))) (drop (suc i) part)
 lack_step [] rest from i lack r lt same = absurd (omega arith)
-lack_step (x ∷ part) rest from zero lack r lt same = lack_same rest from x (cond (has rest x) lack (one_more lack x)) part (and_left _ _ r) same
-lack_step (x ∷ part) rest from (suc i) lack r lt same = lack_step part rest from i lack (and_right _ _ r) (omega arith) same
+lack_step (x ∷ part) rest from zero lack r lt same = lack_same rest from x (cond (has rest x) lack (one_more lack x)) part (and_first _ _ r) same
+lack_step (x ∷ part) rest from (suc i) lack r lt same = lack_step part rest from i lack (and_second _ _ r) (omega arith) same
 
 -- ---- what is lacking decides
 
@@ -113,7 +111,7 @@ lesser_apart e c r lt =
 
 makes_up_more : (lack : Lack) (c r : ℕ) (part : List ℕ) → is_before lack (c ∷ part) ≡ true → makes_up (one_more lack c) r ≡ (makes_up lack r && nat_eq r c)
 makes_up_more Nothing c r part h = same_turned c r
-makes_up_more (One e) c r part h = lesser_apart e c r (ltb-true e c (and_left (nat_lt e c) (list_all (λ y. nat_lt e y) part) h))
+makes_up_more (One e) c r part h = lesser_apart e c r (ltb-true e c (and_first (nat_lt e c) (list_all (λ y. nat_lt e y) part) h))
 makes_up_more More c r part h = refl
 
 before_more : (lack : Lack) (c : ℕ) (part : List ℕ) → list_all (λ y. nat_lt c y) part ≡ true → is_before (one_more lack c) part ≡ true
@@ -123,7 +121,7 @@ before_more More c part h = refl
 
 before_rest : (lack : Lack) (c : ℕ) (part : List ℕ) → is_before lack (c ∷ part) ≡ true → is_before lack part ≡ true
 before_rest Nothing c part h = refl
-before_rest (One e) c part h = and_right (nat_lt e c) _ h
+before_rest (One e) c part h = and_second (nat_lt e c) _ h
 before_rest More c part h = refl
 
 made_up : (set : List ℕ) (lack : Lack) (part : List ℕ) (r : ℕ) → is_rising part ≡ true → is_before lack part ≡ true → (makes_up lack r && is_subset part (with set r)) ≡ makes_up (lack_from set lack part) r
@@ -133,13 +131,13 @@ made_up set lack (c ∷ part) r rises h =
       | true ↦ λ e.
           let here : has (with set r) c ≡ true = has-with_old set r c e in
           ap (λ b. makes_up lack r && (b && is_subset part (with set r))) here
-          ∙ made_up set lack part r (and_right _ _ rises) (before_rest lack c part h)
+          ∙ made_up set lack part r (and_second _ _ rises) (before_rest lack c part h)
       | false ↦ λ e.
           let here : has (with set r) c ≡ nat_eq r c = has-with set r c ∙ ap (λ b. b || nat_eq r c) e in
           ap (λ b. makes_up lack r && (b && is_subset part (with set r))) here
           ∙ sym (and_assoc (makes_up lack r) (nat_eq r c) (is_subset part (with set r)))
           ∙ ap (λ b. b && is_subset part (with set r)) (sym (makes_up_more lack c r part h))
-          ∙ made_up set (one_more lack c) part r (and_right _ _ rises) (before_more lack c part (and_left _ _ rises))
+          ∙ made_up set (one_more lack c) part r (and_second _ _ rises) (before_more lack c part (and_first _ _ rises))
     ] refl
 
 pub subset_makes_up : (part set : List ℕ) (r : ℕ) → is_rising part ≡ true → is_subset part (with set r) ≡ makes_up (lack_from set Nothing part) r

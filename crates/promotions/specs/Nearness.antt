@@ -1,6 +1,6 @@
 -- Lines that are within a set with one more choice.
 use Rattle.std.specs.Prelude.{ℕ, Bool, true, false, ◌&&◌, List, [], ◌∷◌, ◌==◌, Option, Some, None, if◌then◌else◌}
-use Rattle.choice_set.specs.Sets.{has}
+use Rattle.lists.specs.Sets.{has}
 use Rattle.resolver_model.specs.declared.lines.Line.{Line}
 use Rattle.promotions.specs.declared.near.Lack.{Lack}
 use Rattle.promotions.specs.declared.near.Lack.TheVariants.{Nothing, One, More}

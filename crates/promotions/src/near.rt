@@ -2,7 +2,7 @@
 ghost use Rattle.std.specs.Prelude.{◌≡◌, ◌<◌, ◌≤◌, ℕ, length, slice_index, IsTrue, IfOk, MatchOption, Option, None, if◌then◌else◌};
 ghost use Rattle.std.specs.List.{fold};
 ghost use Rattle.std.specs.Option.{option_map};
-ghost use Rattle.choice_set.specs.Sets.{is_rising, has, is_subset, with};
+ghost use Rattle.lists.specs.Sets.{is_rising, has, is_subset, with};
 ghost use Rattle.resolver_model.specs.declared.lines.Line.{Line};
 ghost use Rattle.promotions.specs.declared.near.Lack.TheVariants.{Nothing};
 ghost use Rattle.promotions.specs.Strongest.{better, strongest};
@@ -126,9 +126,7 @@ pub fn near_lines<'a>(
     let mut list = Vec::new(alloc);
     for line in lines {
         if let Some(near) = near_line(line, set) {
-            let Ok(()) = list.push(near) else {
-                return Err(NoMemory);
-            };
+            list.push(near)?;
         }
     }
     Ok(list)

@@ -3,8 +3,8 @@
 ghost use Rattle.std.specs.Prelude.{◌≡◌, List, [], ◌++◌, ℕ, decimal, codes, OnOk};
 ghost use Rattle.sample_maker.specs.Samples.{relation};
 
+use ascii::append_number;
 use choice_set::NoMemory;
-use itoa::Buffer;
 use std::alloc::Global;
 use std::marker::Model;
 
@@ -36,17 +36,16 @@ impl Text {
     pub(crate) fn add(&mut self, words: &str) -> Result<(), NoMemory>
         ensures { OnOk result (self.new ≡ self.old ++ words.now) }
     {
-        self.bytes
-            .extend_from_slice(words.as_bytes())
-            .map_err(|_| NoMemory)
+        self.bytes.extend_from_slice(words.as_bytes())?;
+        Ok(())
     }
 
     /// Adds `number` in decimal.
     pub(crate) fn add_number(&mut self, number: u32) -> Result<(), NoMemory>
         ensures { OnOk result (self.new ≡ self.old ++ decimal number) }
     {
-        let mut buffer = Buffer::new();
-        self.add(buffer.format(number))
+        append_number(&mut self.bytes, u64::from(number))?;
+        Ok(())
     }
 
     /// Adds the line `FIELD: pN` with `versions` behind it, where there is a number N, else nothing.

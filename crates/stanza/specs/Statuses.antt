@@ -1,21 +1,7 @@
 -- The value of Status in a dpkg status file: three words, a wish, a flag and a state.
-use Rattle.std.specs.Prelude.{ℕ, Bool, cond, ◌&&◌, ◌||◌, ◌==◌, List, [], ◌∷◌, length, Option, Some, None, nat_eq, nat_lt, codes}
-use Rattle.std.specs.List.{filter, slice_split}
-use Rattle.std.specs.Cmp.Lexicographic.{pointwise}
-
--- whether two texts have the same bytes
-abbrev pub is_same : List ℕ → List ℕ → Bool
-is_same a b = pointwise nat_eq a b
-
-abbrev pub is_space : ℕ → Bool
-is_space byte = byte == 32 || byte == 9
-
-abbrev pub is_some_text : List ℕ → Bool
-is_some_text text = nat_lt 0 (length text)
-
--- the words of a text, between spaces and tabs
-abbrev pub words : List ℕ → List (List ℕ)
-words text = filter is_some_text (slice_split is_space text)
+use Rattle.std.specs.Prelude.{ℕ, Bool, cond, ◌&&◌, ◌||◌, List, [], ◌∷◌, Option, Some, None, codes}
+pub use Rattle.ascii.specs.Texts.{is_same}
+use Rattle.ascii.specs.Texts.{words}
 
 -- what the administrator wishes for the package
 abbrev pub is_wish : List ℕ → Bool

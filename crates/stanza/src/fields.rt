@@ -1,9 +1,6 @@
 // The fields of a stanza, one at a time, each with its fault.
 
 ghost use Rattle.std.specs.Prelude.{◌≡◌, true, false, Some, None, MatchResult, codes};
-ghost use Rattle.std.specs.List.{list_all};
-ghost use Rattle.std.specs.Char.{is_ascii_alphanumeric};
-ghost use Rattle.dep_fields.specs.Tokens.{begins_with, is_name, is_name_byte};
 ghost use Rattle.stanza.specs.Fields.{field_in, is_relation, is_provides};
 ghost use Rattle.stanza.specs.Found.{slot_text};
 ghost use Rattle.stanza.specs.Views.{ReadsRelation};
@@ -14,6 +11,7 @@ use crate::statuses::{Status, read_status};
 use crate::{StanzaFault, StanzaKind};
 use control_file::{Field, Paragraph};
 use deb_version::Version;
+use dep_fields::is_package_name;
 
 /// A paragraph with the fields that a stanza is read from.
 #[derive(Clone, Copy)]
@@ -64,7 +62,7 @@ impl<'p, 'a> FoundFields<'p, 'a> {
         let Some(field) = self.slots.name else {
             return Err(fault(self.line(), StanzaKind::NoPackage));
         };
-        if !is_name(field.value) {
+        if !is_package_name(field.value) {
             return Err(fault(field.line, StanzaKind::BadPackage));
         }
         Ok(field.value)
@@ -164,34 +162,6 @@ fn fault(line: u64, kind: StanzaKind) -> StanzaFault
     ensures kind { result.kind ≡ kind }
 {
     StanzaFault { line, kind }
-}
-
-// Whether a text is a package name: its first byte a letter or a digit, and the others too, or `+`, `-`, `.`, `_`.
-fn is_name(text: &[u8]) -> bool
-    ensures { result ≡ is_name text.now }
-{
-    begins_with_alphanumeric(text) && all_name_bytes(text)
-}
-
-fn begins_with_alphanumeric(text: &[u8]) -> bool
-    ensures { result ≡ begins_with is_ascii_alphanumeric text.now }
-{
-    match text {
-        [first, ..] => first.is_ascii_alphanumeric(),
-        [] => false,
-    }
-}
-
-fn all_name_bytes(text: &[u8]) -> bool
-    ensures { result ≡ list_all is_name_byte text.now }
-{
-    text.iter().all(|byte| is_name_byte(*byte))
-}
-
-fn is_name_byte(byte: u8) -> bool
-    ensures { result ≡ is_name_byte byte }
-{
-    byte.is_ascii_alphanumeric() || byte == b'+' || byte == b'-' || byte == b'.' || byte == b'_'
 }
 
 // The value of a relationship field, empty where it is missing.

@@ -1,9 +1,10 @@
 // The value of `Status` in dpkg's status file.
 
-ghost use Rattle.std.specs.Prelude.{◌≡◌, ◌≤◌, ◌∷◌, [], MatchOption, option_map, length, drop, not};
-ghost use Rattle.std.specs.List.{prefix_len};
-ghost use Rattle.stanza.specs.Statuses.{is_space, words, is_wish, is_hold, is_flag, is_present_state, is_absent_state, is_state, status_of};
+ghost use Rattle.std.specs.Prelude.{◌≡◌, option_map};
+ghost use Rattle.stanza.specs.Statuses.{is_wish, is_hold, is_flag, is_present_state, is_absent_state, is_state, status_of};
 ghost use Rattle.stanza.specs.Views.{status_text};
+
+use ascii::next_word;
 
 /// Whether the package is to be kept as it is, and whether a version of it is there.
 #[derive(Clone, Copy)]
@@ -30,37 +31,6 @@ pub fn read_status(value: &[u8]) -> Option<Status>
     } else {
         None
     }
-}
-
-// The first word of a text and what stands behind it, or `None` where there is no word.
-fn next_word(text: &[u8]) -> Option<(&[u8], &[u8])>
-    ensures { MatchOption result (words text.now ≡ []) (λ first. words text.now ≡ first.0.now ∷ words first.1.now) }
-{
-    let (_, front) = text.split_at(spaces_len(text));
-    if front.is_empty() {
-        return None;
-    }
-    Some(front.split_at(word_len(front)))
-}
-
-fn spaces_len(text: &[u8]) -> usize
-    ensures len { result ≡ prefix_len is_space text.now }
-    ensures bound { result ≤ length text.now }
-{
-    text.iter().take_while(|byte| is_space(**byte)).count()
-}
-
-fn word_len(text: &[u8]) -> usize
-    ensures len { result ≡ prefix_len (λ byte. not (is_space byte)) text.now }
-    ensures bound { result ≤ length text.now }
-{
-    text.iter().take_while(|byte| !is_space(**byte)).count()
-}
-
-fn is_space(byte: u8) -> bool
-    ensures { result ≡ is_space byte }
-{
-    byte == b' ' || byte == b'\t'
 }
 
 fn is_wish(word: &[u8]) -> bool

@@ -1,6 +1,6 @@
 use Rattle.std.proofs.Common.{take, ap}
 use Rattle.control_file.specs.Text.{is_colon}
-use Rattle.control_file.proofs.Bytes.{position_some, position_none}
+use Rattle.lists.proofs.Tests.{position_some, position_none}
 use Rattle.control_file.proofs.before_colon.Goals as goal
 
 pub returns-in-Some : goal.returns-in-Some

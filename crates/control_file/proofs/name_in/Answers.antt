@@ -2,7 +2,7 @@ use Rattle.std.proofs.Common.{take, ap, sym}
 use Rattle.std.proofs.lemmas.List.{take_all}
 use Rattle.std.specs.List.{position_or_len}
 use Rattle.control_file.specs.Text.{is_colon}
-use Rattle.control_file.proofs.Bytes.{position_some, position_none_past}
+use Rattle.lists.proofs.Tests.{position_some, position_none_past}
 use Rattle.control_file.proofs.name_in.Goals as goal
 
 pub returns-in-Some : goal.returns-in-Some

@@ -5,7 +5,8 @@ use Rattle.control_file.specs.Text.{is_blank, cut, fault_of_line}
 use Rattle.control_file.specs.Answers.{is_paragraph_next}
 use Rattle.control_file.specs.Passes.{own_names}
 use Rattle.control_file.proofs.Cuts.{passed_more}
-use Rattle.control_file.proofs.Runs.{all_push, names_of_push, faultless_more}
+use Rattle.lists.proofs.Tests.{list_all-end}
+use Rattle.control_file.proofs.Runs.{names_of_push, faultless_more}
 use Rattle.control_file.proofs.Readings.{reading_faulty, scans_end}
 use Rattle.control_file.proofs.scan.Goals as goal
 use Rattle.control_file.proofs.scan.Goals.{else-loop-first-test, then-loop-first-test+then-is_blank}
@@ -25,7 +26,7 @@ loop-first-preserved c =
     let taken = c.in-Ok.ensures in (
       i.0 ++ first ∷ [],
       passed_more c.args.line c.args.text.now c.loop-first.number c.loop-first.rest.now i.0 first c.cut_line.result.1.now i.1 c.cut_line.ensures,
-      all_push (λ l. not (is_blank l)) i.0 first i.2 (ap not full),
+      list_all-end (λ l. not (is_blank l)) i.0 first i.2 (ap not full),
       taken.1 ∙ ap (λ ns. ns ++ own_names first) i.3 ∙ sym (names_of_push c.args.line i.0 first),
       faultless_more c.args.line i.0 first i.4 (ap (λ ns. fault_of_line ns first) (sym i.3) ∙ taken.0),
     )

@@ -2,7 +2,7 @@ use Rattle.std.proofs.Common.{ℕ, ◌≤◌, Bool, not, length, drop, ap, sym, 
 use Rattle.std.proofs.lemmas.List.{take_rest, drop_all}
 use Rattle.std.specs.List.{position_or_len}
 use Rattle.control_file.specs.Text.{is_space}
-use Rattle.control_file.proofs.Bytes.{position_some, position_none_past}
+use Rattle.lists.proofs.Tests.{position_some, position_none_past}
 use Rattle.control_file.proofs.trimmed_front.Goals as goal
 
 abbrev is_other : ℕ → Bool

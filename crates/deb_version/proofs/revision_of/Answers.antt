@@ -1,14 +1,15 @@
 use Rattle.std.proofs.Common.{◌-◌, length, sym}
 use Rattle.deb_version.specs.Versions.{is_hyphen}
-use Rattle.deb_version.proofs.Cuts.{hyphen-found, hyphen-missing, take-rest}
+use Rattle.std.proofs.lemmas.List.{take_rest}
+use Rattle.deb_version.proofs.Cuts.{last_some, last_none}
 use Rattle.deb_version.proofs.revision_of.Goals as goal
 
 pub returns-in-Some : goal.returns-in-Some
 returns-in-Some c =
-    let at = hyphen-found is_hyphen c.args.rest.now c.in-Some.behind (sym c.in-Some.ensures) in
-    rw (at.0, at.1) (take-rest c.args.rest.now (length c.args.rest.now - c.in-Some.behind))
+    let at = last_some is_hyphen c.args.rest.now c.in-Some.behind c.in-Some.ensures in
+    rw (at.0, sym at.1) (take_rest c.args.rest.now (length c.args.rest.now - c.in-Some.behind))
 
 pub returns-in-None : goal.returns-in-None
 returns-in-None c =
-    let none = hyphen-missing is_hyphen c.args.rest.now (sym c.in-None.ensures) in
+    let none = last_none is_hyphen c.args.rest.now c.in-None.ensures in
     rw none

@@ -5,13 +5,13 @@ use Rattle.apt_base.proofs.whole.read_open.Goals as goal
 pub returns-then-limit-len-clause-budget : goal.returns-then-limit-len-clause-budget
 returns-then-limit-len-clause-budget g c =
     let i = c.loop-bytes.invariant in
-    let more = has_read_more _ _ _ _ _ _ i.0 c.in-Ok.ensures in
-    let size = length-more c.loop-bytes.bytes.items c.read.new.buf c.in-Ok.count c.in-Ok.ensures.bytes.within in
-    took_at_most _ _ _ _ more (omega (arith, size, i.1, c.in-Ok.ensures.bytes.within))
+    let more = has_read_more _ _ _ _ _ _ i.0 c.in_ok-count.ensures in
+    let size = length-more c.loop-bytes.bytes.items c.read.new.buf c.in_ok-count.count c.in_ok-count.ensures.bytes.within in
+    took_at_most _ _ _ _ more (omega (arith, size, i.1, c.in_ok-count.ensures.bytes.within))
 
-pub returns-then-is_err-clause-budget : goal.returns-then-is_err-clause-budget
-returns-then-is_err-clause-budget g c =
+pub returns-in_err-extend_from_slice-clause-budget : goal.returns-in_err-extend_from_slice-clause-budget
+returns-in_err-extend_from_slice-clause-budget g c =
     let i = c.loop-bytes.invariant in
-    let more = has_read_more _ _ _ _ _ _ i.0 c.in-Ok.ensures in
-    let size = length-more c.loop-bytes.bytes.items c.read.new.buf c.in-Ok.count c.in-Ok.ensures.bytes.within in
-    took_at_most _ _ _ _ more (omega (arith, size, i.1, c.in-Ok.ensures.bytes.within))
+    let more = has_read_more _ _ _ _ _ _ i.0 c.in_ok-count.ensures in
+    let size = length-more c.loop-bytes.bytes.items c.read.new.buf c.in_ok-count.count c.in_ok-count.ensures.bytes.within in
+    took_at_most _ _ _ _ more (omega (arith, size, i.1, c.in_ok-count.ensures.bytes.within))

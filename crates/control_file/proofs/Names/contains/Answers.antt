@@ -1,7 +1,7 @@
 use Rattle.std.proofs.Common.{ℕ, Bool, List, take, ap, sym, ◌∙◌, Bor}
 use Rattle.std.specs.List.{list_any}
 use Rattle.std.specs.Str.{str_eq_ignore_ascii_case}
-use Rattle.control_file.proofs.Bytes.{list_any-map}
+use Rattle.lists.proofs.Tests.{list_any-map}
 use Rattle.control_file.proofs.Names.contains.Goals as goal
 
 pub returns : goal.returns

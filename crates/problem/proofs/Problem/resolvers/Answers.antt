@@ -1,5 +1,5 @@
 use Rattle.std.proofs.Common.{arith, ◌≡◌, ◌≤◌, ◌++◌, sym, ap, ◌∙◌, subst, ℕ, List, IsTrue}
-use Rattle.choice_set.specs.Sets.{is_rising}
+use Rattle.lists.specs.Sets.{is_rising}
 use Rattle.resolver_model.specs.Problems.{package_of, dependency, resolvers, version_count}
 use Rattle.problem.specs.Places.{absent_of, end_of}
 use Rattle.problem.specs.Resolving.{free_targets, free_versions, leave_choices}

@@ -1,4 +1,4 @@
-use Rattle.std.proofs.Common.{◌∙◌, ap, sym, ◌+◌, get_or, drop}
+use Rattle.std.proofs.Common.{◌∙◌, ap, sym, ◌+◌, drop}
 use Rattle.promotions.specs.declared.near.Lack.TheVariants.{Nothing}
 use Rattle.promotions.specs.Nearness.{lack_from}
 use Rattle.promotions.proofs.Lacks.{lack_more, walked}

@@ -1,5 +1,5 @@
 use Rattle.std.proofs.Common.{◌≡◌, drop, IsTrue}
-use Rattle.choice_set.specs.Sets.{is_rising}
+use Rattle.lists.specs.Sets.{is_rising}
 use Rattle.promotions.specs.declared.near.Lack.TheVariants.{Nothing}
 use Rattle.promotions.specs.Nearness.{lack_from}
 use Rattle.promotions.proofs.near.lack_in.Given as goal

@@ -1,4 +1,4 @@
-use Rattle.std.proofs.Common.{◌∙◌, ap, sym, ◌≡◌, ℕ, List}
+use Rattle.std.proofs.Common.{◌∙◌, ap, sym, ℕ, List}
 use Rattle.promotions.specs.declared.near.Lack.TheVariants.{Nothing}
 use Rattle.promotions.specs.Nearness.{lack_from, makes_up}
 use Rattle.promotions.proofs.Lacks.{subset_makes_up}

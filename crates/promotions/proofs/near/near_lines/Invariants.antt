@@ -1,6 +1,6 @@
 use Rattle.std.proofs.Common.{◌≡◌, ℕ, take, None}
 use Rattle.std.specs.List.{fold}
-use Rattle.choice_set.specs.Sets.{with}
+use Rattle.lists.specs.Sets.{with}
 use Rattle.promotions.specs.Strongest.{strongest}
 use Rattle.promotions.specs.Nearness.{better_near}
 use Rattle.promotions.proofs.near.near_lines.Given as goal

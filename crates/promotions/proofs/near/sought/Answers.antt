@@ -1,6 +1,6 @@
-use Rattle.std.proofs.Common.{◌∙◌, ap, sym, subst, ◌≡◌, ◌<◌, ◌≤◌, ℕ, List, drop, arith, get_or, nat_eq}
-use Rattle.choice_set.specs.Sets.{has}
-use Rattle.choice_set.proofs.Rising.{is_rising-drop}
+use Rattle.std.proofs.Common.{◌∙◌, ap, sym, ℕ, List, arith}
+use Rattle.lists.proofs.Sets.{is_rising-drop}
+use Rattle.lists.specs.Sets.{has}
 use Rattle.promotions.proofs.Lacks.{has_low, has_behind, found_first}
 use Rattle.promotions.proofs.near.sought.Goals as goal
 

@@ -3,7 +3,6 @@ use Rattle.apt_base.specs.Asked.{counts_of, with_name}
 use Rattle.apt_base.specs.Faults.{ByName}
 use Rattle.apt_base.specs.declared.asked.Entry.{Entry}
 use Rattle.apt_base.proofs.Names.{entered_before, entered_now}
-use Rattle.apt_base.proofs.Cuts.{grown}
 use Rattle.apt_base.proofs.asked.Asked.enter.Goals as goal
 
 pub returns-then-is_some-clause-ok : goal.returns-then-is_some-clause-ok
@@ -15,8 +14,8 @@ returns-then-is_some-clause-ok c =
 
 pub returns-clause-ok : goal.returns-clause-ok
 returns-clause-ok c =
-    let entry : Entry = record { name = c.in-Ok.name; faults = 0 } in
-    let e = entered_now c.args.name.now c.as_slice.result.now c.place_of.result entry c.place_of.ensures (sym c.if-is_some.ensures) c.in-Ok.ensures.ok refl in
+    let entry : Entry = record { name = c.in_ok-name.name; faults = 0 } in
+    let e = entered_now c.args.name.now c.as_slice.result.now c.place_of.result entry c.place_of.ensures (sym c.if-is_some.ensures) c.in_ok-name.ensures.ok refl in
     let base = ap counts_of c.as_slice.ensures.value ∙ c.self.view_is in
-    let items = grown _ _ _ _ c.push.ensures.items c.if-is_err.ensures.value in
+    let items = c.in_ok-push.ensures.items in
     ap counts_of items ∙ ap (λ l. counts_of (l ++ entry ∷ [])) (sym c.as_slice.ensures.value) ∙ e ∙ ap (λ l. with_name l c.args.name.now) base

@@ -1,7 +1,7 @@
 use Rattle.std.proofs.Common.{ℕ, ◌<◌, ◌==◌, ◌∷◌, List, not, length, take, sym, ap, ◌∙◌, arith, rules, take_all}
 use Rattle.std.proofs.lemmas.List.Sums.{position_or_len_is}
 use Rattle.std.proofs.lemmas.List.{take_rest}
-use Rattle.dep_fields.proofs.Runs.{all-run}
+use Rattle.lists.proofs.Tests.{list_all-prefix}
 use Rattle.dep_fields.proofs.Parts.{pieces-first, pieces-none}
 use Rattle.dep_fields.specs.Fields.{pieces, has_none}
 use Rattle.dep_fields.proofs.groups.cuts.cut.Goals as goal
@@ -17,7 +17,7 @@ pub returns-in-Some-clause-unmarked : goal.returns-in-Some-clause-unmarked
 returns-in-Some-clause-unmarked c =
     let text = c.args.text.now in
     let found = position_or_len_is (λ (b : ℕ). b == c.args.mark) text c.in-Some.i 0 (search rules) (search rules) (search rules) in
-    ap (λ n. has_none c.args.mark (take n text)) (sym found) ∙ all-run (λ (b : ℕ). not (b == c.args.mark)) text
+    ap (λ n. has_none c.args.mark (take n text)) (sym found) ∙ list_all-prefix (λ (b : ℕ). not (b == c.args.mark)) text
 
 pub returns-in-None-clause-parts : goal.returns-in-None-clause-parts
 returns-in-None-clause-parts c =
@@ -28,4 +28,4 @@ pub returns-in-None-clause-unmarked : goal.returns-in-None-clause-unmarked
 returns-in-None-clause-unmarked c =
     let text = c.args.text.now in
     let none = position_or_len_is (λ (b : ℕ). b == c.args.mark) text (length text) 0 (omega arith) (search rules) (search rules) in
-    sym (ap (λ n. has_none c.args.mark (take n text)) none ∙ ap (has_none c.args.mark) (take_all (length text) text (omega arith))) ∙ all-run (λ (b : ℕ). not (b == c.args.mark)) text
+    sym (ap (λ n. has_none c.args.mark (take n text)) none ∙ ap (has_none c.args.mark) (take_all (length text) text (omega arith))) ∙ list_all-prefix (λ (b : ℕ). not (b == c.args.mark)) text

@@ -1,6 +1,6 @@
 use Rattle.std.proofs.Common.{◌∙◌, ap, length, ◌==◌}
 use Rattle.dep_fields.specs.Tokens.{is_blank}
-use Rattle.dep_fields.proofs.Runs.{behind-none}
+use Rattle.ascii.proofs.Texts.{behind-none}
 use Rattle.dep_fields.proofs.groups.cuts.is_empty_group.Goals as goal
 
 pub returns : goal.returns
