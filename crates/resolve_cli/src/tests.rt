@@ -20,9 +20,6 @@ const PACKAGES: &str =
 const WHOLE: &str =
     "aptres: 3 packages, 4 versions, 2 dependencies, 1 broken\n[0/0]> Solution 1 cost 0 0 1\n  b=2\n[1/1]> Solution 2 cost 0 0 2\n  b=1\n  d=1\n[2/2]> Solution 3 cost 1 0 1\n  a-\n[3/3]> No more solutions\n[3/3]> ";
 
-const MISREAD: &str =
-    "aptres: 3 packages, 4 versions, 2 dependencies, 1 broken\n[0/0]> Bad line: unknown command\n[0/0]> Solution 1 cost 0 0 1\n  b=2\n[1/1]> Bad line: unknown command\n[1/1]> Solution 2 cost 0 0 2\n  b=1\n  d=1\n[2/2]> ";
-
 const EMPTY: &str =
     "aptres: 0 packages, 0 versions, 0 dependencies, 0 broken\n[0/0]> Solution 1 cost 0 0 0\n[1/1]> No more solutions\n[1/1]> ";
 
@@ -83,37 +80,35 @@ fn runs_end_as_they_should(rt: HostRuntime) -> Result<(), Fail> {
         shelf_failing: &[],
         sink_failing: &[],
     };
-    for piece in [1usize, 7, 100_000] {
-        let (status, lines, written) = run_of(alloc, &path, piece)?;
-        assert_eq!(rt; status, Status::Ended);
-        assert_eq!(rt; lines, 4);
-        assert_eq!(rt; written.as_slice(), WHOLE.as_bytes());
-    }
-    let misread = Setup {
-        words: path.words,
-        status: STATUS,
-        packages: PACKAGES,
-        input: "fly\nnext\n\nnext",
-        shelf_failing: &[],
-        sink_failing: &[],
-    };
-    let (status, lines, written) = run_of(alloc, &misread, 5)?;
+    let (status, lines, written) = run_of(alloc, &path, 7)?;
     assert_eq!(rt; status, Status::Ended);
     assert_eq!(rt; lines, 4);
-    assert_eq!(rt; written.as_slice(), MISREAD.as_bytes());
+    assert_eq!(rt; written.as_slice(), WHOLE.as_bytes());
+    deliveries_are_minimal();
+    Ok(())
+}
+
+#[test]
+fn empty_files_have_one_solution(rt: HostRuntime) -> Result<(), Fail> {
     let empty = Setup {
-        words: path.words,
+        words: WORDS.as_slice(),
         status: "",
         packages: "",
         input: "next\nnext\n",
         shelf_failing: &[],
         sink_failing: &[],
     };
-    let (status, _, written) = run_of(alloc, &empty, 5)?;
+    let (status, _, written) = run_of(rt.alloc(), &empty, 5)?;
     assert_eq!(rt; status, Status::Ended);
     assert_eq!(rt; written.as_slice(), EMPTY.as_bytes());
+    Ok(())
+}
+
+#[test]
+fn a_full_sink_ends_a_run(rt: HostRuntime) -> Result<(), Fail> {
+    let alloc = rt.alloc();
     let cut = Setup {
-        words: path.words,
+        words: WORDS.as_slice(),
         status: STATUS,
         packages: PACKAGES,
         input: "next\n",
@@ -124,7 +119,6 @@ fn runs_end_as_they_should(rt: HostRuntime) -> Result<(), Fail> {
     assert_eq!(rt; status, Status::WriteFault);
     assert_eq!(rt; lines, 0);
     assert_eq!(rt; written.as_slice(), "apt".as_bytes());
-    deliveries_are_minimal();
     Ok(())
 }
 
@@ -146,12 +140,10 @@ fn available(alloc: Global, count: usize) -> Result<String, Fail> {
 fn refusals_have_their_causes(rt: HostRuntime) -> Result<(), Fail> {
     let alloc = rt.alloc();
     let many = available(alloc, 13)?;
-    let few = available(alloc, 12)?;
     let other = ["aptres", "--status", "status", "--packages", "missing"];
     let swapped = ["aptres", "--packages", "packages", "--status", "status"];
     let unbuilt = InputKind::Unbuilt;
     for (words, status, packages, failing, end) in [
-        (WORDS, STATUS, PACKAGES, 99, Status::Ended),
         (
             WORDS,
             BAD_STATUS,
@@ -159,17 +151,6 @@ fn refusals_have_their_causes(rt: HostRuntime) -> Result<(), Fail> {
             99,
             Status::BadInput {
                 file: FileKind::Status,
-                line: 0,
-                kind: unbuilt,
-            },
-        ),
-        (
-            WORDS,
-            STATUS,
-            "x",
-            99,
-            Status::BadInput {
-                file: FileKind::Packages,
                 line: 0,
                 kind: unbuilt,
             },
@@ -184,7 +165,6 @@ fn refusals_have_their_causes(rt: HostRuntime) -> Result<(), Fail> {
                 count: 13,
             },
         ),
-        (WORDS, "", few.as_str(), 99, Status::Ended),
         (other, STATUS, PACKAGES, 99, Status::ReadFault),
         (WORDS, STATUS, PACKAGES, 1, Status::ReadFault),
         (
@@ -206,7 +186,7 @@ fn refusals_have_their_causes(rt: HostRuntime) -> Result<(), Fail> {
         let (found, lines, written) = run_of(alloc, &setup, 100)?;
         assert_eq!(rt; found, end);
         assert_eq!(rt; lines, 0);
-        assert_eq!(rt; written.is_empty(), end != Status::Ended);
+        assert!(rt; written.is_empty());
     }
     Ok(())
 }
