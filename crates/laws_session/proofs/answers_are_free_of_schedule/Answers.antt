@@ -1,0 +1,5 @@
+use Rattle.laws_session.proofs.Schedule.{IsFreeOfSchedule-all}
+use Rattle.laws_session.proofs.answers_are_free_of_schedule.Goals as goal
+
+pub returns : goal.returns
+returns c = IsFreeOfSchedule-all

@@ -1,0 +1,116 @@
+-- The job is out, the outcome is its split, and what it learned follows from what was known.
+use Rattle.std.proofs.Common.{◌≡◌, List, ap, sym, subst, ◌∙◌, map}
+use Rattle.resolver_model.specs.declared.lines.Line.{Line}
+use Rattle.resolver_model.specs.declared.history.By.{By}
+use Rattle.resolver_model.specs.declared.history.Entry.TheVariants.{Put}
+use Rattle.resolver_model.specs.Problems.{Problem}
+use Rattle.resolver_model.specs.Costs.{Table}
+use Rattle.resolver_model.specs.Trees.{split}
+use Rattle.resolver_model.specs.declared.node.Node.{Node}
+use Rattle.resolver_model.specs.Rules.{Rules}
+use Rattle.std.proofs.Common.{ℕ}
+use Rattle.resolver_model.specs.Births.{birth, births_at}
+use Rattle.resolver_model.specs.Histories.{History}
+use Rattle.resolver_model.specs.Answers.{Setting}
+use Rattle.resolver_model.specs.Legal.{CanSplit, Follows, IsLegal}
+use Rattle.laws_session.proofs.Opened.{IsOutPlace-out}
+use Rattle.search_core.specs.Climbs.{IsClimbable, IsLearned}
+use Rattle.laws_session.proofs.Hands.{AreHandsApart-legal}
+use Rattle.frontier.specs.declared.children.Child.{Child}
+use Rattle.frontier.specs.Stores.{Store, AreBelow, with_children}
+use Rattle.search_core.specs.Ways.{way}
+use Rattle.search_core.specs.declared.jobs.Job.{Job}
+use Rattle.search_core.specs.declared.jobs.Outcome.{Outcome}
+use Rattle.search_core.specs.Jobs.{IsOut, child, outcome_of}
+use Rattle.search_core.specs.Sessions.{Session, with_entry, IsFor}
+use Rattle.search_core.specs.Known.{IsKnown}
+use Rattle.search_core.proofs.Ways.{Follows-put}
+use Rattle.search_core.proofs.Known.{held_out, AreBelow-split, IsKnown-split}
+use Rattle.search_core.proofs.session.Session.put.Goals as goal
+
+-- what is said of the session is said of what it keeps
+out_inside : (inside now : Session) (job : Job) → inside ≡ now → IsOut now.setting now.history job → IsOut inside.setting inside.history job
+out_inside inside now job e h = let P : Session → Type 0 = λ x. IsOut x.setting x.history job in subst P (sym e) h
+
+problem_inside : (inside now : Session) (p : Problem) → inside ≡ now → now.setting.problem ≡ p → p ≡ inside.setting.problem
+problem_inside inside now p e h = sym (ap (λ (x : Session). x.setting.problem) e ∙ h)
+
+table_inside : (inside now : Session) (t : Table) → inside ≡ now → now.setting.table ≡ t → inside.setting.table ≡ t
+table_inside inside now t e h = ap (λ (x : Session). x.setting.table) e ∙ h
+
+children_are : (p q : Problem) (job : Job) (outcome : Outcome) → outcome ≡ outcome_of p job → p ≡ q → outcome.children ≡ map (child q) (split q job.node (way q job.node job.choice))
+children_are p q job outcome e f = ap (λ (x : Outcome). x.children) e ∙ ap (λ x. map (child x) (split x job.node (way x job.node job.choice))) f
+
+by_is : (p q : Problem) (job : Job) (outcome : Outcome) → outcome ≡ outcome_of p job → p ≡ q → outcome.by ≡ way q job.node job.choice
+by_is p q job outcome e f = ap (λ (x : Outcome). x.by) e ∙ ap (λ x. way x job.node job.choice) f
+
+pub put_children-requires-clause-held : goal.put_children-requires-clause-held
+put_children-requires-clause-held c =
+    let i = c.self.inside in
+    held_out i.ledger i.frontier i.rules i.given.items i.learned c.args.job.actor c.args.job.leaf c.self.invariant (out_inside i.ledger c.args.self.now c.args.job c.self.view_is c.requires.job).leaf
+
+pub put_children-requires-clause-choices : goal.put_children-requires-clause-choices
+put_children-requires-clause-choices c =
+    let i = c.self.inside in
+    let same = problem_inside i.ledger c.args.self.now c.args.basis.now.problem c.self.view_is c.requires.basis.same_problem in
+    let all = AreBelow-split i.ledger.setting c.self.invariant.setting c.args.job (out_inside i.ledger c.args.self.now c.args.job c.self.view_is c.requires.job).can in
+    let C : List Child → Type 0 = λ cs. AreBelow i.ledger.setting.table.choices cs in
+    let T : Table → Type 0 = λ t. AreBelow t.choices c.args.outcome.children in
+    subst T (table_inside i.ledger c.args.self.now c.args.basis.now.table c.self.view_is c.requires.basis.same_table) (subst C (sym (children_are c.args.basis.now.problem i.ledger.setting.problem c.args.job c.args.outcome c.requires.outcome same)) all)
+
+-- the world in which the split learns
+world : (inside now : Session) (st : Store) (rules : Rules) (given : List (List ℕ)) (learned : List Line) (p : Problem) (t : Table) → inside ≡ now → IsKnown inside st rules given learned → IsFor now p t → IsClimbable inside.setting inside.history p t st
+world inside now st rules given learned p t e k for =
+    let F : Session → Type 0 = λ x. IsFor x p t in
+    let own = subst F (sym e) for in
+    record { setting = k.setting; legal = k.legal; places = k.places; same_problem = own.same_problem; same_table = own.same_table }
+
+-- the leaf of the job, and the way that it is split
+can_split : (s : Setting) (history : History) (job : Job) (by : By) → IsLegal s history → IsOut s history job → by ≡ way s.problem job.node job.choice → CanSplit s.problem (birth (births_at s.problem history) job.leaf).node by
+can_split s history job by legal out e =
+    let place = IsOutPlace-out s history job.actor job.leaf legal out.leaf in
+    let N : Node → Type 0 = λ node. CanSplit s.problem node (way s.problem job.node job.choice) in
+    let B : By → Type 0 = λ b. CanSplit s.problem (birth (births_at s.problem history) job.leaf).node b in
+    subst B (sym e) (subst N (out.node ∙ sym place.node) out.can.way)
+
+pub learn-requires-clause-world : goal.learn-requires-clause-world
+learn-requires-clause-world c = let i = c.self.inside in world i.ledger c.args.self.now i.frontier i.rules i.given.items i.learned c.args.basis.now.problem c.args.basis.now.table c.self.view_is c.self.invariant c.requires.basis
+
+pub learn-requires-clause-leaf : goal.learn-requires-clause-leaf
+learn-requires-clause-leaf c = let i = c.self.inside in (IsOutPlace-out i.ledger.setting i.ledger.history c.args.job.actor c.args.job.leaf c.self.invariant.legal (out_inside i.ledger c.args.self.now c.args.job c.self.view_is c.requires.job).leaf).low
+
+pub learn-requires-clause-way : goal.learn-requires-clause-way
+learn-requires-clause-way c =
+    let i = c.self.inside in
+    let same = problem_inside i.ledger c.args.self.now c.args.basis.now.problem c.self.view_is c.requires.basis.same_problem in
+    can_split i.ledger.setting i.ledger.history c.args.job c.args.outcome.by c.self.invariant.legal (out_inside i.ledger c.args.self.now c.args.job c.self.view_is c.requires.job) (by_is c.args.basis.now.problem i.ledger.setting.problem c.args.job c.args.outcome c.requires.outcome same)
+
+follows : (s : Setting) (history : History) (job : Job) (by : By) (lines : List Line) → IsLegal s history → IsOut s history job → by ≡ way s.problem job.node job.choice → IsLearned s history job.leaf by lines → Follows s history (Put job.actor job.leaf by lines)
+follows s history job by lines legal out e learned =
+    let B : By → Type 0 = λ b. Follows s history (Put job.actor job.leaf b lines) in
+    let low = (AreHandsApart-legal s history legal).actors job.actor job.leaf out.leaf in
+    subst B (sym e) (Follows-put s history job lines low out learned.derived)
+
+pub end_by_split-requires-clause-follows : goal.end_by_split-requires-clause-follows
+end_by_split-requires-clause-follows c =
+    let i = c.self.inside in
+    let same = problem_inside i.ledger c.args.self.now c.args.basis.now.problem c.self.view_is c.requires.basis.same_problem in
+    follows i.ledger.setting i.ledger.history c.args.job c.args.outcome.by c.in-Ok.lines c.self.invariant.legal (out_inside i.ledger c.args.self.now c.args.job c.self.view_is c.requires.job) (by_is c.args.basis.now.problem i.ledger.setting.problem c.args.job c.args.outcome c.requires.outcome same) c.in-Ok.ensures.ok
+
+pub end_by_split-requires-clause-learns : goal.end_by_split-requires-clause-learns
+end_by_split-requires-clause-learns c = c.in-Ok.ensures.ok.learns c.args.job.actor
+
+pub invariant_of-self-in-Ok-put_children : goal.invariant_of-self-in-Ok-put_children
+invariant_of-self-in-Ok-put_children c =
+    let i = c.self.inside in
+    let s = i.ledger.setting in
+    let job = c.args.job in
+    let lines = c.in-Ok.lines in
+    let out = out_inside i.ledger c.args.self.now job c.self.view_is c.requires.job in
+    let same = problem_inside i.ledger c.args.self.now c.args.basis.now.problem c.self.view_is c.requires.basis.same_problem in
+    let K : Session → Store → List Line → Type 0 = λ x st learned. IsKnown x st i.rules i.given.items learned in
+    let X : Session → Type 0 = λ x. K x c.put_children.new.self c.learn.new.learned in
+    let S : Store → Type 0 = λ st. K (with_entry i.ledger (Put job.actor job.leaf (way s.problem job.node job.choice) lines)) st c.learn.new.learned in
+    let L : List Line → Type 0 = λ learned. K (with_entry i.ledger (Put job.actor job.leaf (way s.problem job.node job.choice) lines)) (with_children i.frontier job.leaf c.args.outcome.children) learned in
+    let entry : c.end_by_split.new.self ≡ with_entry i.ledger (Put job.actor job.leaf (way s.problem job.node job.choice) lines) = c.end_by_split.ensures ∙ ap (λ by. with_entry i.ledger (Put job.actor job.leaf by lines)) (by_is c.args.basis.now.problem s.problem job c.args.outcome c.requires.outcome same) in
+    subst X (sym entry) (subst S (sym c.in-Ok-put_children.ensures) (subst L (sym c.in-Ok.ensures.all) (IsKnown-split i.ledger i.frontier i.rules i.given.items i.learned job c.args.outcome.children lines c.self.invariant out (children_are c.args.basis.now.problem s.problem job c.args.outcome c.requires.outcome same) c.in-Ok.ensures.ok.derived)))
