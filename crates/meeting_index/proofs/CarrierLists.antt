@@ -5,15 +5,16 @@ use Rattle.std.specs.Option.{option_map}
 use Rattle.std.proofs.Math.Nat.{sub-zero}
 use Rattle.std.proofs.lemmas.List.Folds.{list_any-append}
 use Rattle.std.proofs.lemmas.Option.{slice_get-get_or}
-use Rattle.choice_set.specs.Sets.{has, is_rising}
+use Rattle.std.proofs.Math.Bool.{and-false}
+use Rattle.lists.proofs.Sets.{rising_same}
+use Rattle.lists.specs.Sets.{has, is_rising}
 use Rattle.dep_fields.specs.Relationships.{Relationship, VersionBound}
-use Rattle.stanza.specs.Statuses.{is_same}
+use Rattle.ascii.specs.Texts.{is_same}
 use Rattle.universe_model.specs.Lists.{map_from, numbers_of}
 use Rattle.universe_model.specs.Meeting.{is_plain, is_within, is_provided_within, is_provided_by, meets_by_name, meets_by_provides, meets, meets_any}
 use Rattle.universe_model.specs.Versions.{Release, Version, concat, is_release_with}
 use Rattle.meeting_index.specs.Carriers.{Carrier, own, provided, has_plain_arch, provided_in, provides_of, provided_by, all_provided, carriers, is_named, version_in, carries, carried, met_under}
 use Rattle.meeting_index.specs.Numbers.{numbers_from}
-use Rattle.meeting_index.proofs.RisingLists.{rising_same}
 use Rattle.meeting_index.proofs.Numbers.{has-numbers_from, has-numbers_from-or, numbers_from-none, numbers_from-rising, numbers_from-append, found_by_numbers}
 
 has-cases : (test : Carrier → Bool) (x : Carrier) (xs : List Carrier) (c : ℕ) (b : Bool)
@@ -32,10 +33,6 @@ both-and true b true = refl
 both-and true true false = refl
 both-and true false false = refl
 both-and false b n = refl
-
-and-false : (a : Bool) → (a && false) ≡ false
-and-false true = refl
-and-false false = refl
 
 -- whether a carrier meets an item, and is that of a version
 abbrev pub meets_as : Relationship → ℕ → Carrier → Bool

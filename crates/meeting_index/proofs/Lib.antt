@@ -1,4 +1,3 @@
 pub mod CarrierLists
 pub mod NewNames
 pub mod Numbers
-pub mod RisingLists

@@ -2,7 +2,7 @@
 use Rattle.std.proofs.Common.{◌≡◌, ℕ, suc, ◌+◌, ◌<◌, ◌≤◌, List, [], ◌∷◌, ◌++◌, Bool, true, false, cond, ◌&&◌, ◌||◌, refl, sym, ap, ◌∙◌, length, map, get_or, add-zero, nat_lt, nat_eq, arith}
 use Rattle.std.specs.List.{filter, flat_map, enumerate_from, list_all}
 use Rattle.std.proofs.lemmas.Bool.{and_from, lt-ltb}
-use Rattle.choice_set.specs.Sets.{is_rising, has}
+use Rattle.lists.specs.Sets.{is_rising, has}
 use Rattle.universe_model.specs.Lists.{number_in}
 use Rattle.meeting_index.specs.Numbers.{numbers_from}
 

@@ -2,7 +2,7 @@
 use Rattle.std.specs.Prelude.{ℕ, Bool, ◌&&◌, List, [], ◌∷◌, ◌++◌, map, if◌then◌else◌, Option, Some, None}
 use Rattle.std.specs.List.{filter, flat_map}
 use Rattle.dep_fields.specs.Relationships.{Relationship, VersionBound}
-use Rattle.stanza.specs.Statuses.{is_same}
+use Rattle.ascii.specs.Texts.{is_same}
 use Rattle.universe_model.specs.Lists.{map_from}
 use Rattle.universe_model.specs.Meeting.{is_plain, is_within, is_provided_within}
 use Rattle.universe_model.specs.Versions.{Release, Version, concat, is_release_with}

@@ -2,7 +2,7 @@
 use Rattle.std.specs.Prelude.{ℕ, Bool, List, [], Option, Some, None}
 use Rattle.std.specs.Global.{Vec}
 use Rattle.std.specs.HashMap.{get_by}
-use Rattle.stanza.specs.Statuses.{is_same}
+use Rattle.ascii.specs.Texts.{is_same}
 use Rattle.meeting_index.specs.declared.named.Name.{Name}
 use Rattle.meeting_index.specs.declared.named.NamedNumbers.{NamedNumbers}
 

@@ -10,7 +10,6 @@ ghost use Rattle.universe_parts.specs.Listed.{version_listed};
 ghost use Rattle.meeting_index.specs.Carriers.{met_under, own};
 ghost use Rattle.meeting_index.specs.Provided.{carrier_of, carriers_listed};
 
-use crate::named::push;
 use crate::provided::Provided;
 use choice_set::NoMemory;
 use deb_version::Version;
@@ -35,7 +34,7 @@ pub fn add_met(
 {
     for number in numbers {
         if let Some(version) = found(carriers, bound, *number) {
-            push(met, version)?;
+            met.push(version)?;
         }
     }
     Ok(())

@@ -2,7 +2,7 @@
 
 ghost use Rattle.std.specs.Prelude.{◌≡◌, ◌≤◌, ◌++◌, length, map, nat_lt, IsTrue, IfOk, OnOk};
 ghost use Rattle.std.specs.List.{list_all};
-ghost use Rattle.choice_set.specs.Sets.{is_rising};
+ghost use Rattle.lists.specs.Sets.{is_rising};
 ghost use Rattle.dep_fields.specs.Relationships.{meaning};
 ghost use Rattle.dep_fields.specs.Views.{group_items};
 ghost use Rattle.problem.specs.Limits.{most_versions};

@@ -3,7 +3,7 @@
 ghost use Rattle.std.specs.Prelude.{◌≡◌, ◌++◌, ◌∷◌, [], None, OnOk, if◌then◌else◌};
 ghost use Rattle.std.specs.Hash as fed;
 ghost use Rattle.std.specs.HashMap.{get_by};
-ghost use Rattle.stanza.specs.Statuses.{is_same};
+ghost use Rattle.ascii.specs.Texts.{is_same};
 ghost use Rattle.meeting_index.specs.Named.{has_same, kept, numbers_at};
 ghost use borrow.Author.Rules.{rules};
 
@@ -51,10 +51,11 @@ impl<'a> NamedNumbers<'a> {
     {
         let name = Name { bytes: name };
         if let Some(numbers) = self.by_name.get_mut(&name) {
-            return push(numbers, number);
+            numbers.push(number)?;
+            return Ok(());
         }
         let mut numbers = Vec::new(alloc);
-        push(&mut numbers, number)?;
+        numbers.push(number)?;
         put(&mut self.by_name, name, numbers)
     }
 
@@ -85,18 +86,6 @@ fn put<'a>(
     requires { get_by (has_same name) by_name.old ≡ None }
     ensures { OnOk result ((other : Name) → kept (get_by (has_same other) by_name.new) ≡ kept (get_by (has_same other) by_name.old) ++ (if has_same name.entry other then numbers.items else [])) }
 {
-    match by_name.insert(name, numbers) {
-        Ok(_) => Ok(()),
-        Err(_) => Err(NoMemory),
-    }
-}
-
-/// Adds a number at the end.
-pub fn push(numbers: &mut Vec<u32>, number: u32) -> Result<(), NoMemory>
-    ensures { OnOk result (numbers.new.items ≡ numbers.old.items ++ number ∷ []) }
-{
-    match numbers.push(number) {
-        Ok(()) => Ok(()),
-        Err(_) => Err(NoMemory),
-    }
+    by_name.insert(name, numbers)?;
+    Ok(())
 }

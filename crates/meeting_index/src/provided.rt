@@ -105,8 +105,6 @@ fn add_item<'a>(
         name: item.name,
         version: number,
     };
-    match list.push(provided) {
-        Ok(()) => Ok(()),
-        Err(_) => Err(NoMemory),
-    }
+    list.push(provided)?;
+    Ok(())
 }

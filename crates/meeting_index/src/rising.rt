@@ -1,7 +1,7 @@
 // Numbers in order.
 
 ghost use Rattle.std.specs.Prelude.{◌≡◌, ℕ, IsTrue};
-ghost use Rattle.choice_set.specs.Sets.{has, is_rising};
+ghost use Rattle.lists.specs.Sets.{has, is_rising};
 
 /// Sorts numbers, and leaves each of them once.
 pub fn make_rising(numbers: &mut Vec<u32>)

@@ -2,17 +2,18 @@
 use Rattle.std.proofs.Common.{inl, inr, ◌≡◌, ◌≢◌, ◌<◌, ◌≤◌, ◌+◌, ℕ, zero, suc, List, [], ◌∷◌, ◌++◌, Bool, true, false, ◌&&◌, ◌||◌, not, cond, length, map, refl, ap, sym, ◌∙◌, arith, nat_lt, nat_le, nat_eq, get_or}
 use Rattle.std.specs.Prelude.{◌==◌}
 use Rattle.std.specs.List.{filter, list_all}
-use Rattle.std.proofs.lemmas.Bool.{and_from, and_parts, lt-ltb, le-ltb, ltb-true, ltb-false, le-leb, eqb-true, eq-eqb, false_from_ne_true}
+use Rattle.std.proofs.lemmas.Bool.{and_from, and_parts, lt-ltb, le-ltb, ltb-true, ltb-false, le-leb, eqb-true, eq-eqb, false_from_ne_true, and_right}
 use Rattle.std.proofs.lemmas.Bool.Decides.{nat_tests}
 use Rattle.std.proofs.lemmas.List.{length-map}
 use Rattle.std.proofs.Math.Nat.{eq-or-lt_of_le}
-use Rattle.choice_set.specs.Sets.{is_rising, has}
-use Rattle.choice_set.proofs.Rising.{has_at, is_rising-filter, rising_upto}
-use Rattle.resolver_model.specs.Problems.{Problem, IsWellFormed, below, package_of, version_count}
-use Rattle.resolver_model.proofs.Sublists.{is_rising-below}
+use Rattle.lists.proofs.Below.{is_rising-below, filter-below_none, has-below}
+use Rattle.lists.proofs.Sets.{has_at, is_rising-filter, rising_upto, rising_same, has-filter, has_place}
+use Rattle.lists.proofs.Tests.{list_all-filter_weaker}
+use Rattle.lists.specs.Below.{below}
+use Rattle.lists.specs.Sets.{is_rising, has}
+use Rattle.resolver_model.specs.Problems.{Problem, IsWellFormed, package_of, version_count}
 use Rattle.problem.specs.Places.{absent_of, end_of}
 use Rattle.problem.proofs.Ranges.{package_from, place_from, end_of-range, less_in_front}
-use Rattle.problem.proofs.Merged.{rising_same}
 use Rattle.universe_model.specs.Lists.{numbers_of}
 use Rattle.universe_model.specs.Versions.{Version, is_of}
 use Rattle.universe_model.specs.Meeting.{meets}
@@ -23,8 +24,8 @@ use Rattle.requirement_list.specs.Fields.{requirement_of}
 use Rattle.requirement_list.specs.Settings.{owners_of}
 use Rattle.requirement_list.specs.Conflicts.{left_of, of_package}
 use Rattle.requirement_list.proofs.Numbers.{passes, has_numbers, numbers_rise}
-use Rattle.requirement_list.proofs.Unmet.{unmet_rises, filter_none, and_no}
-use Rattle.requirement_list.proofs.Meets.{has_filter, has_below, has_place, passes_any, any_passes, passes_both, passes_not, passes_past, passes_owner, passes_there}
+use Rattle.requirement_list.proofs.Unmet.{unmet_rises}
+use Rattle.requirement_list.proofs.Meets.{passes_any, any_passes, passes_both, passes_not, passes_past, passes_owner, passes_there}
 
 -- ---- the versions of a package that an item leaves
 
@@ -64,8 +65,8 @@ left_unmet s item p w e q =
 
     lhs : (c : ℕ) → has (left_of p met q) c ≡ ((nat_le (absent_of p q) c && not (passes (meets s.native item) s.versions c)) && nat_lt c (end_of p q))
     lhs c =
-        has_filter (λ v. nat_le (absent_of p q) v && not (has met v)) (below (end_of p q)) c
-        ∙ ap (λ r. (nat_le (absent_of p q) c && not (has met c)) && r) (has_below (end_of p q) c)
+        has-filter (λ v. nat_le (absent_of p q) v && not (has met v)) (below (end_of p q)) c
+        ∙ ap (λ r. (nat_le (absent_of p q) c && not (has met c)) && r) (has-below (end_of p q) c)
         ∙ ap (λ r. (nat_le (absent_of p q) c && not r) && nat_lt c (end_of p q)) (has_numbers (meets s.native item) s.versions c)
 
     owner : (c : ℕ) → package_of p c ≡ get_or (owners_of s.versions) c 0
@@ -83,7 +84,7 @@ left_unmet s item p w e q =
 
     past : (c : ℕ) → length s.versions ≤ c → ((nat_le (absent_of p q) c && not (passes (meets s.native item) s.versions c)) && nat_lt c (end_of p q)) ≡ passes other s.versions c
     past c le =
-        and_no (nat_le (absent_of p q) c && not (passes (meets s.native item) s.versions c)) (nat_lt c (end_of p q)) (le-ltb c (end_of p q) (omega (arith, size, end_of-range p q)))
+        and_right (nat_le (absent_of p q) c && not (passes (meets s.native item) s.versions c)) (nat_lt c (end_of p q)) (le-ltb c (end_of p q) (omega (arith, size, end_of-range p q)))
         ∙ sym (passes_past other s.versions c le)
 
     same : (c : ℕ) → ((nat_le (absent_of p q) c && not (passes (meets s.native item) s.versions c)) && nat_lt c (end_of p q)) ≡ passes other s.versions c
@@ -135,13 +136,13 @@ one_met s item k lt =
     any_passes (λ v. is_of q v && m v) s.versions n (passes_both (is_of q) m s.versions n ∙ and_from _ _ of_it met)
 
 pub concerned_none : (s : Setting) (own : ℕ) (item : Relationship) (next : ℕ) → ((k : ℕ) → k < length (met_of s item) → owner_at s item k < next) → concerned_from s own item next ≡ []
-concerned_none s own item next h = filter_none (λ q. nat_le next q && is_concerned s own item q) (length s.installed) each
+concerned_none s own item next h = filter-below_none (λ q. nat_le next q && is_concerned s own item q) (length s.installed) each
   where
     each : (q : ℕ) → q < length s.installed → (nat_le next q && is_concerned s own item q) ≡ false
     each q lt =
         elim (nat_le next q) as (λ r. nat_le next q ≡ r → (r && is_concerned s own item q) ≡ false) [
           | true ↦ λ t. let le : next ≤ q = grind (arith, nat_tests) in
-              and_no (not (q == own)) (is_met_in s item q) (none_met s item q (λ k less same. omega (arith, h k less)))
+              and_right (not (q == own)) (is_met_in s item q) (none_met s item q (λ k less same. omega (arith, h k less)))
           | false ↦ λ _. refl
         ] refl
 
@@ -159,14 +160,6 @@ owners_rise p w i (suc j) le lt =
           let step : package_of p j ≤ package_of p (suc j) = rw next up in
           omega (arith, owners_rise p w i j (omega arith) (omega arith))
     ]
-
-filter_passes : (q r : ℕ → Bool) → ((c : ℕ) → q c ≡ true → r c ≡ true) → (xs : List ℕ) → list_all r (filter q xs) ≡ true
-filter_passes q r h [] = refl
-filter_passes q r h (x ∷ xs) =
-    elim (q x) as (λ b. q x ≡ b → list_all r (cond b (x ∷ filter q xs) (filter q xs)) ≡ true) [
-      | true ↦ λ t. and_from (r x) _ (h x t) (filter_passes q r h xs)
-      | false ↦ λ _. filter_passes q r h xs
-    ] refl
 
 -- the same for any other number than the next one that passes
 front : (t : ℕ → Bool) (next q c : ℕ) → next ≤ q → (next ≤ c → c < q → t c ≡ false) → nat_eq q c ≡ false → (nat_le next c && t c) ≡ (nat_le (q + 1) c && t c)
@@ -200,14 +193,14 @@ same_at t next q n c le lt none here =
 
 -- one test's numbers from a place on, where none passes before a later place
 has_from_on : (t : ℕ → Bool) (next n c : ℕ) → has (filter (λ x. nat_le next x && t x) (below n)) c ≡ ((nat_le next c && t c) && nat_lt c n)
-has_from_on t next n c = has_filter (λ x. nat_le next x && t x) (below n) c ∙ ap (λ r. (nat_le next c && t c) && r) (has_below n c)
+has_from_on t next n c = has-filter (λ x. nat_le next x && t x) (below n) c ∙ ap (λ r. (nat_le next c && t c) && r) (has-below n c)
 
 split_yes : (t : ℕ → Bool) (next q n : ℕ) → next ≤ q → q < n → ((r : ℕ) → next ≤ r → r < q → t r ≡ false) → t q ≡ true
     → filter (λ x. nat_le next x && t x) (below n) ≡ q ∷ filter (λ x. nat_le (q + 1) x && t x) (below n)
 split_yes t next q n le lt none yes_q =
     rising_same (filter (λ x. nat_le next x && t x) (below n)) (q ∷ rest)
     (is_rising-filter (λ x. nat_le next x && t x) (below n) (is_rising-below n))
-    (and_from (list_all (λ y. nat_lt q y) rest) _ (filter_passes (λ x. nat_le (q + 1) x && t x) (λ y. nat_lt q y) above (below n)) (is_rising-filter (λ x. nat_le (q + 1) x && t x) (below n) (is_rising-below n)))
+    (and_from (list_all (λ y. nat_lt q y) rest) _ (list_all-filter_weaker (λ x. nat_le (q + 1) x && t x) (λ y. nat_lt q y) above (below n)) (is_rising-filter (λ x. nat_le (q + 1) x && t x) (below n) (is_rising-below n)))
     (λ c. has_from_on t next n c ∙ same c ∙ ap (λ r. nat_eq q c || r) (sym (has_from_on t (q + 1) n c)))
   where
     rest : List ℕ
@@ -228,7 +221,7 @@ split_no t next q n le none no_q = filter_same (λ x. nat_le next x && t x) (λ 
         elim (nat_eq q c) as (λ r. nat_eq q c ≡ r → (nat_le next c && t c) ≡ (nat_le (q + 1) c && t c)) [
           | true ↦ λ e.
               let no : t c ≡ false = ap t (sym (eqb-true q c e)) ∙ no_q in
-              and_no (nat_le next c) (t c) no ∙ sym (and_no (nat_le (q + 1) c) (t c) no)
+              and_right (nat_le next c) (t c) no ∙ sym (and_right (nat_le (q + 1) c) (t c) no)
           | false ↦ λ e. front t next q c le (none c) e
         ] refl
 
@@ -289,7 +282,7 @@ concerned_next s source own item p w e installed k next lt le before =
         omega (arith, owner (get_or met k 0), owner (get_or met j 0), up)
 
     none : (r : ℕ) → next ≤ r → r < q → is_concerned s own item r ≡ false
-    none r from upto = and_no (not (r == own)) (is_met_in s item r) (none_met s item r apart)
+    none r from upto = and_right (not (r == own)) (is_met_in s item r) (none_met s item r apart)
       where
         apart : (j : ℕ) → j < length met → owner_at s item j ≢ r
         apart j less same =

@@ -2,8 +2,8 @@
 use Rattle.std.proofs.Common.{◌≡◌, ◌<◌, ℕ, true, false, refl, ap, sym, ◌∙◌, arith, nat_eq}
 use Rattle.std.proofs.lemmas.Bool.{eqb-true}
 use Rattle.std.proofs.lemmas.Bool.Decides.{nat_tests}
-use Rattle.choice_set.specs.Sets.{has}
-use Rattle.choice_set.proofs.Rising.{has_none, has_at}
+use Rattle.lists.proofs.Sets.{has_none, has_at}
+use Rattle.lists.specs.Sets.{has}
 use Rattle.resolver_model.specs.Problems.{Problem, IsWellFormed, package_of, start_of, version_count}
 
 -- a version is among the start versions exactly where it is that of its package

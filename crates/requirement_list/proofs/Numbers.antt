@@ -3,7 +3,7 @@ use Rattle.std.proofs.Common.{◌≡◌, ◌<◌, ◌+◌, ℕ, zero, suc, List,
 use Rattle.std.specs.List.{filter, enumerate_from, list_all}
 use Rattle.std.proofs.lemmas.Bool.{and_from, lt-ltb}
 use Rattle.std.proofs.lemmas.Bool.Decides.{nat_tests}
-use Rattle.choice_set.specs.Sets.{is_rising, has}
+use Rattle.lists.specs.Sets.{is_rising, has}
 use Rattle.universe_model.specs.Lists.{number_in, numbers_of}
 
 -- the numbers of those that pass, counted from n

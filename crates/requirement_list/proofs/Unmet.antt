@@ -1,36 +1,26 @@
 -- The numbers in a range that are not among the met ones.
 use Rattle.std.proofs.Common.{◌≡◌, ◌≢◌, ◌<◌, ◌≤◌, ◌+◌, ℕ, zero, suc, List, [], ◌∷◌, ◌++◌, Bool, true, false, ◌&&◌, not, length, refl, ap, sym, ◌∙◌, arith, nat_lt, nat_le, nat_eq, get_or}
 use Rattle.std.specs.List.{filter, list_all}
-use Rattle.std.proofs.lemmas.Bool.{and_from, le-leb, le-ltb, lt-ltb, ltb-true}
+use Rattle.std.proofs.lemmas.Bool.{and_from, le-leb, le-ltb, lt-ltb, ltb-true, and_right}
 use Rattle.std.proofs.lemmas.Bool.Decides.{nat_tests}
-use Rattle.choice_set.specs.Sets.{is_rising, has}
-use Rattle.choice_set.proofs.Rising.{has_none, has_at, rising_at, rising_upto, is_rising-filter, list_all-filter, list_all_weaker}
-use Rattle.resolver_model.specs.Problems.{Problem, below, version_count}
-use Rattle.resolver_model.proofs.Below.{filter-below_yes, filter-below_no}
-use Rattle.resolver_model.proofs.Sublists.{is_rising-below, below_less}
+use Rattle.lists.proofs.Below.{filter-below_none, filter-below_yes, filter-below_no, is_rising-below, list_all-below}
+use Rattle.lists.proofs.Sets.{has_none, has_at, rising_at, rising_upto, is_rising-filter}
+use Rattle.lists.proofs.Tests.{list_all-filter, list_all_weaker}
+use Rattle.lists.specs.Below.{below}
+use Rattle.lists.specs.Sets.{is_rising, has}
+use Rattle.resolver_model.specs.Problems.{Problem, version_count}
 use Rattle.problem.specs.Places.{absent_of, end_of}
 use Rattle.problem.proofs.Ranges.{end_of-range}
 use Rattle.requirement_list.specs.Conflicts.{unmet, left_of, AreLeft}
 
-pub and_no : (a b : Bool) → b ≡ false → (a && b) ≡ false
-and_no true b h = h
-and_no false b h = refl
-
--- nothing passes
-pub filter_none : (p : ℕ → Bool) (n : ℕ) → ((c : ℕ) → c < n → p c ≡ false) → filter p (below n) ≡ []
-filter_none p zero h = refl
-filter_none p (suc n) h =
-    let next : suc n ≡ n + 1 = omega arith in
-    ap (λ m. filter p (below m)) next ∙ filter-below_no p n (h n (omega arith)) ∙ filter_none p n (λ c lt. h c (omega arith))
-
 pub unmet_none : (met : List ℕ) (first : ℕ) → unmet met first first ≡ []
-unmet_none met first = filter_none (λ v. nat_le first v && not (has met v)) first (λ c lt. let no : nat_le first c ≡ false = grind (arith, nat_tests) in rw no refl)
+unmet_none met first = filter-below_none (λ v. nat_le first v && not (has met v)) first (λ c lt. let no : nat_le first c ≡ false = grind (arith, nat_tests) in rw no refl)
 
 pub unmet_yes : (met : List ℕ) (first v : ℕ) → first ≤ v → has met v ≡ false → unmet met first (v + 1) ≡ unmet met first v ++ v ∷ []
 unmet_yes met first v le h = filter-below_yes (λ v. nat_le first v && not (has met v)) v (and_from (nat_le first v) _ (le-leb first v le) (ap not h))
 
 pub unmet_no : (met : List ℕ) (first v : ℕ) → has met v ≡ true → unmet met first (v + 1) ≡ unmet met first v
-unmet_no met first v h = filter-below_no (λ v. nat_le first v && not (has met v)) v (and_no (nat_le first v) _ (ap not h))
+unmet_no met first v h = filter-below_no (λ v. nat_le first v && not (has met v)) v (and_right (nat_le first v) _ (ap not h))
 
 -- a number that the met ones pass over
 pub has_not : (met : List ℕ) → is_rising met ≡ true → (place v : ℕ) → ((k : ℕ) → k < place → get_or met k 0 < v) → (place < length met → v < get_or met place 0) → has met v ≡ false
@@ -76,7 +66,7 @@ unmet_rises met first end = is_rising-filter (λ v. nat_le first v && not (has m
 pub unmet_within : (met : List ℕ) (first end count : ℕ) → end ≤ count → list_all (λ v. nat_lt v count) (unmet met first end) ≡ true
 unmet_within met first end count le =
     list_all-filter (λ v. nat_lt v count) (λ v. nat_le first v && not (has met v)) (below end)
-    (list_all_weaker (λ v. nat_lt v end) (λ v. nat_lt v count) (λ v h. lt-ltb v count (omega (arith, ltb-true v end h))) (below end) (below_less end))
+    (list_all_weaker (λ v. nat_lt v end) (λ v. nat_lt v count) (λ v h. lt-ltb v count (omega (arith, ltb-true v end h))) (below end) (list_all-below end))
 
 pub are_left : (p : Problem) (met : List ℕ) (q first end : ℕ) (targets : List ℕ) → first ≡ absent_of p q → end ≡ end_of p q → targets ≡ unmet met first end → AreLeft p met q targets
 are_left p met q first end targets a b e =

@@ -3,6 +3,7 @@ use Rattle.std.proofs.Common.{◌≡◌, ◌<◌, ◌+◌, ℕ, zero, suc, List,
 use Rattle.std.specs.List.{list_all}
 use Rattle.std.proofs.lemmas.List.{append-nil}
 use Rattle.std.proofs.lemmas.Bool.{and_parts}
+use Rattle.lists.proofs.Cuts.{drop_at}
 use Rattle.resolver_model.specs.Problems.{Problem}
 use Rattle.meeting_index.specs.Indexes.{Indexed}
 use Rattle.universe_model.specs.Dependencies.{Requirement, Setting}
@@ -19,10 +20,6 @@ pub passes_at : {A B : Type 0} (t : B → Bool) (f : A → B) (xs : List A) → 
 passes_at t f [] h k d lt = absurd (omega arith)
 passes_at t f (x ∷ xs) h zero d lt = (and_parts (t (f x)) _ h).0
 passes_at t f (x ∷ xs) h (suc k) d lt = passes_at t f xs (and_parts (t (f x)) _ h).1 k d (omega arith)
-
--- what is left from a place on
-pub drop_at : {A : Type 0} (xs : List A) (k : ℕ) (x : A) → k < length xs → x ≡ get_or xs k x → drop k xs ≡ x ∷ drop (k + 1) xs
-drop_at xs k x lt e = drop-cons xs k x lt ∙ ap (λ y. y ∷ drop (suc k) xs) (sym e) ∙ ap (λ n. x ∷ drop n xs) (sym (add-one k))
 
 -- the setting of an index and of nothing collected
 pub same_setting : (index given : Indexed) (c : Collected) (packages : Problem) → index ≡ given → c.builder ≡ packages

@@ -1,9 +1,10 @@
 -- The versions of a package that an item leaves, by those that meet it.
 use Rattle.std.specs.Prelude.{◌≡◌, ℕ, true, nat_lt, ◌&&◌, ◌==◌, not, List, [], ◌∷◌, nat_le, if◌then◌else◌}
 use Rattle.std.specs.List.{filter, list_all}
-use Rattle.choice_set.specs.Sets.{has, is_rising}
+use Rattle.lists.specs.Below.{below}
+use Rattle.lists.specs.Sets.{has, is_rising}
 use Rattle.problem.specs.Places.{absent_of, end_of}
-use Rattle.resolver_model.specs.Problems.{Problem, below, version_count}
+use Rattle.resolver_model.specs.Problems.{Problem, version_count}
 use Rattle.universe_model.specs.Dependencies.{Requirement}
 use Rattle.requirement_list.specs.Fields.{requirement_of}
 use Rattle.requirement_list.specs.declared.collected.Field.TheVariants.{Conflicts}

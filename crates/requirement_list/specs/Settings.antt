@@ -1,7 +1,7 @@
 -- What dependencies are made from, as a call has it.
 use Rattle.std.specs.Prelude.{◌≡◌, ℕ, true, List, length, map, nat_lt}
 use Rattle.std.specs.List.{list_all}
-use Rattle.choice_set.specs.Sets.{is_rising}
+use Rattle.lists.specs.Sets.{is_rising}
 use Rattle.dep_fields.specs.Relationships.{Relationship}
 use Rattle.universe_model.specs.Lists.{numbers_of}
 use Rattle.universe_model.specs.Meeting.{meets_any}

@@ -2,7 +2,7 @@
 
 ghost use Rattle.std.specs.Prelude.{◌≡◌, ◌<◌, [], ◌∷◌, ◌++◌, List, length, nat_lt, IsTrue, MatchResult, false};
 ghost use Rattle.std.specs.List.{list_all};
-ghost use Rattle.choice_set.specs.Sets.{is_rising};
+ghost use Rattle.lists.specs.Sets.{is_rising};
 ghost use Rattle.resolver_model.specs.Problems.{version_count};
 ghost use Rattle.universe_model.specs.Dependencies.{Requirement};
 ghost use Rattle.requirement_list.specs.Fields.{is_soft, place_in, is_conflict, requirement_of};
@@ -140,12 +140,8 @@ impl Collected {
     fn note(&mut self, field: Field) -> Result<(), BuildEnd>
         ensures { MatchResult result (λ _. IsNoted field self.old self.new) (λ end. end ≡ NoMemory) }
     {
-        let Ok(()) = self.groups.push(field.place()) else {
-            return Err(BuildEnd::NoMemory);
-        };
-        let Ok(()) = self.conflicts.push(field.is_conflict()) else {
-            return Err(BuildEnd::NoMemory);
-        };
+        self.groups.push(field.place())?;
+        self.conflicts.push(field.is_conflict())?;
         Ok(())
     }
 }

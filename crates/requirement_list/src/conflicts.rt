@@ -2,8 +2,9 @@
 
 ghost use Rattle.std.specs.Prelude.{◌≡◌, ◌<◌, ◌≤◌, ℕ, ◌∷◌, ◌++◌, [], ◌&&◌, not, map, length, true, false, IsTrue, IsFalse, nat_le, nat_lt, slice_index, None, OnOk, MatchResult};
 ghost use Rattle.std.specs.List.{filter, list_all, flat_map};
-ghost use Rattle.choice_set.specs.Sets.{has, is_rising};
-ghost use Rattle.resolver_model.specs.Problems.{below, version_count, package_count, package_of, IsWellFormed};
+ghost use Rattle.lists.specs.Sets.{has, is_rising};
+ghost use Rattle.lists.specs.Below.{below};
+ghost use Rattle.resolver_model.specs.Problems.{version_count, package_count, package_of, IsWellFormed};
 ghost use Rattle.problem.specs.Limits.{most_packages};
 ghost use Rattle.dep_fields.specs.Relationships.{Relationship, meaning};
 ghost use Rattle.dep_fields.specs.Views.{group_items};
@@ -59,20 +60,10 @@ fn list_unmet(
         if is_met(met, place, version) {
             place += 1;
         } else {
-            push(targets, version)?;
+            targets.push(version)?;
         }
     }
     Ok(())
-}
-
-// Adds a number at the end.
-fn push(numbers: &mut Vec<u32>, number: u32) -> Result<(), NoMemory>
-    ensures { OnOk result (numbers.new.items ≡ numbers.old.items ++ number ∷ []) }
-{
-    match numbers.push(number) {
-        Ok(()) => Ok(()),
-        Err(_) => Err(NoMemory),
-    }
 }
 
 // Lists the versions of a package that are not met. The met version at `place` is the first one of the package.
@@ -93,10 +84,8 @@ fn list_left(
     let _versions = problem.versions();
     let first = problem.absent_of(package);
     let end = problem.end_of(package);
-    match list_unmet(met, place, first, end, targets) {
-        Ok(()) => Ok(()),
-        Err(_) => Err(BuildEnd::NoMemory),
-    }
+    list_unmet(met, place, first, end, targets)?;
+    Ok(())
 }
 
 // Adds the dependency on the versions of a package that are not met, unless the package is the source's own.
@@ -150,9 +139,7 @@ fn add_conflict(
     requires source { source < length index.now.versions }
     ensures { Adds (of_conflict (setting_of index.now collected.old) source own (meaning item.now)) collected.old result collected.new }
 {
-    let Ok(()) = index.met_by(item, &mut room.met) else {
-        return Err(BuildEnd::NoMemory);
-    };
+    index.met_by(item, &mut room.met)?;
     let met = room.met.as_slice();
     let targets = &mut room.targets;
     // the versions rise, so those of one package come one after another

@@ -2,7 +2,7 @@
 
 ghost use Rattle.std.specs.Prelude.{◌≡◌, ◌<◌, ◌≤◌, ◌∷◌, [], map, length, true, not, ◌&&◌, IsTrue, nat_lt, MatchResult};
 ghost use Rattle.std.specs.List.{filter, list_all, list_any};
-ghost use Rattle.choice_set.specs.Sets.{has};
+ghost use Rattle.lists.specs.Sets.{has};
 ghost use Rattle.resolver_model.specs.Problems.{version_count};
 ghost use Rattle.dep_fields.specs.Views.{group_items};
 ghost use Rattle.stanza.specs.Fields.{is_relation};
@@ -27,10 +27,8 @@ fn list_targets(
 ) -> Result<(), BuildEnd>
     ensures { MatchResult result (λ _. AreTargets index.now (group_items group.now) targets.new.items) (λ end. end ≡ NoMemory) }
 {
-    match index.targets(group, targets) {
-        Ok(()) => Ok(()),
-        Err(_) => Err(BuildEnd::NoMemory),
-    }
+    index.targets(group, targets)?;
+    Ok(())
 }
 
 // Adds the dependency of a group of Pre-Depends or Depends.

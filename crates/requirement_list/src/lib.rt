@@ -63,9 +63,7 @@ pub fn list_requirements<'s, 'a>(
 {
     // it tells that there are not too many versions
     let _versions = builder.problem().versions();
-    let Ok(index) = MeetingIndex::new(alloc, native, versions) else {
-        return Err(BuildEnd::NoMemory);
-    };
+    let index = MeetingIndex::new(alloc, native, versions)?;
     let mut collected = Collected::new(alloc, builder);
     let mut room = Room {
         met: Vec::new(alloc),

@@ -14,7 +14,6 @@ ghost use Rattle.universe_model.specs.declared.BuildEnd.TheVariants as build_end
 ghost use Rattle.universe_parts.specs.Listed.{stanza_read};
 ghost use Rattle.stanza_list.specs.StanzaLists.{IsStanzaList, IsTaken, NextOf};
 
-use choice_set::NoMemory;
 use control_file::{Paragraph, Paragraphs};
 use stanza::{Stanza, StanzaFault};
 use std::alloc::Global;
@@ -51,10 +50,8 @@ fn keep<'a>(
         paragraph: paragraph.text(),
         stanza,
     };
-    match list.push(read) {
-        Ok(()) => Ok(()),
-        Err(_) => Err(BuildEnd::NoMemory),
-    }
+    list.push(read)?;
+    Ok(())
 }
 
 // Lists the stanza of a paragraph of a status file, if it counts, or answers its fault.

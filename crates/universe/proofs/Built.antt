@@ -15,6 +15,7 @@ use Rattle.universe_model.specs.Universes.{dependency_in, known, owner_of, insta
 use Rattle.version_list.specs.Listings.{listing_refusal, package_number_of}
 use Rattle.requirement_list.specs.RequirementLists.{requirement_refusal}
 use Rattle.universe_model.specs.Limits.{limit_past}
+use Rattle.laws_universe.proofs.Blocks.{length-map_from}
 
 -- what refuses packages and versions, and then dependencies and targets
 abbrev pub first_limits : ℕ → ℕ → Option ProblemEnd
@@ -47,10 +48,6 @@ or-first f (Some x) b end e = e
 
 pub or-last : {A B : Type 0} (f : A → B) (a b : Option A) (end : B) → a ≡ None → option_map f b ≡ Some end → option_map f (option_or a b) ≡ Some end
 or-last f a b end none e = ap (λ o. option_map f (option_or o b)) none ∙ e
-
-length-map_from : {A B : Type 0} (f : ℕ → A → B) (n : ℕ) (xs : List A) → length (map_from f n xs) ≡ length xs
-length-map_from f n [] = refl
-length-map_from f n (x ∷ xs) = ap suc (length-map_from f (n + 1) xs)
 
 pub owners-known : (vs : List Version) → map package_number_of vs ≡ map owner_of (map known vs)
 owners-known [] = refl

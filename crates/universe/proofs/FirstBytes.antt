@@ -3,7 +3,7 @@ use Rattle.std.proofs.Common.{◌≡◌, ℕ, ◌==◌, List, Option, Some, None
 use Rattle.std.proofs.lemmas.Bool.{false_from_ne_true}
 use Rattle.std.specs.List.{position}
 use Rattle.bstr.specs.Find.{IsFirstByte, is_byte}
-use Rattle.universe_laws.proofs.Places.{position-some}
+use Rattle.laws_universe.proofs.Places.{position-some}
 use Rattle.universe.proofs.Walks.{position-none}
 
 pub first-byte : (mark : ℕ) (text : List ℕ) (r : Option ℕ) → IsFirstByte (is_byte mark) text r → r ≡ position (λ byte. byte == mark) text

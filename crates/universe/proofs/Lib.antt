@@ -1,6 +1,5 @@
 mod Zips
 mod Kept
-mod Digits
 mod Walks
 mod Built
 mod Making

@@ -2,8 +2,9 @@
 use Rattle.std.proofs.Common.{◌≡◌, ◌⊎◌, inl, inr, ℕ, Bool, List, [], map, length, Some, None, option_map, sym, ap, ◌∙◌, subst}
 use Rattle.std.proofs.lemmas.List.{length-map}
 use Rattle.std.specs.Option.{option_or}
+use Rattle.lists.specs.Below.{below}
 use Rattle.problem.specs.Places.{IsOneOfEach}
-use Rattle.resolver_model.specs.Problems.{Problem, below, package_count, dependency_count}
+use Rattle.resolver_model.specs.Problems.{Problem, package_count, dependency_count}
 use Rattle.requirement_list.specs.RequirementLists.{requirement_refusal}
 use Rattle.universe_model.specs.Dependencies.{Requirement, requirements}
 use Rattle.universe_model.specs.Faults.{build_end}

@@ -9,7 +9,7 @@ use Rattle.deb_version.specs.Versions.{Parts, is_version}
 use Rattle.problem.specs.Places.{absent_of, end_of}
 use Rattle.problem.proofs.Ranges.{package_from, place_from, absent_of-range, absent_of-own}
 use Rattle.resolver_model.specs.Problems.{Problem, IsWellFormed, package_of, package_count, version_count}
-use Rattle.universe_laws.proofs.Places.{position-is, position-some}
+use Rattle.laws_universe.proofs.Places.{position-is, position-some}
 use Rattle.universe_model.specs.Universes.{Known, Universe, is_of, is_text_of, owner_of, nothing_known, version_numbered, version_in, problem_of, absent_in}
 use Rattle.universe.specs.Views.{is_sound, is_text_sound}
 use Rattle.universe.proofs.Zips.{at-map}

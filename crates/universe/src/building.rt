@@ -11,23 +11,13 @@ ghost use Rattle.universe.specs.Building.{IsOfStanzas, IsEndOf};
 
 use crate::Universe;
 use crate::known::known_versions;
-use choice_set::NoMemory;
+use laws_universe::{candidates_are_versions, groups_are_few};
 use requirement_list::list_requirements;
 use stanza_list::{package_stanzas, status_stanzas};
 use std::alloc::Global;
-use universe_laws::{candidates_are_versions, groups_are_few};
 use universe_model::BuildEnd;
 use universe_parts::ReadStanza;
 use version_list::{Listing, list_versions};
-
-fn copy(alloc: Global, bytes: &[u8]) -> Result<Vec<u8>, BuildEnd>
-    ensures { MatchResult result (λ copy. copy.items ≡ bytes.now) (λ end. end ≡ build_end.NoMemory) }
-{
-    match Vec::from_slice(alloc, bytes) {
-        Ok(copy) => Ok(copy),
-        Err(_) => Err(BuildEnd::NoMemory),
-    }
-}
 
 impl Universe {
     // The universe of the stanzas that count, or the first limit that it exceeds.
@@ -50,10 +40,8 @@ impl Universe {
         } = list_versions(alloc, status, packages)?;
         let versions = versions.as_slice();
         let list = list_requirements(alloc, native, versions, builder)?;
-        let Ok(known) = known_versions(alloc, versions) else {
-            return Err(BuildEnd::NoMemory);
-        };
-        let native = copy(alloc, native)?;
+        let known = known_versions(alloc, versions)?;
+        let native = Vec::from_slice(alloc, native)?;
         Ok(Universe {
             native,
             names,

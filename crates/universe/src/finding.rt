@@ -1,15 +1,16 @@
 //! What is found in a universe: versions, and the choices that tokens name.
 
-ghost use Rattle.std.specs.Prelude.{◌≡◌, ◌<◌, ◌++◌, ◌∷◌, [], ℕ, Ok, Err, None, Some, IfSome, OnOk, length, option_map, cond, ◌&&◌};
+ghost use Rattle.std.specs.Prelude.{◌≡◌, ◌<◌, ◌++◌, ◌∷◌, [], ℕ, Ok, Err, None, Some, IfSome, OnOk, OnErr, length, option_map, cond, ◌&&◌};
 ghost use Rattle.std.specs.List.{position};
 ghost use Rattle.deb_version.specs.Versions.{parts};
 ghost use Rattle.resolver_model.specs.Problems.{is_install, leave_of};
 ghost use Rattle.universe_model.specs.Universes.{IsProblemOf, version_in, version_numbered, requirement_numbered, is_text_of, name_of_package};
 ghost use Rattle.universe_model.specs.Tokens.{choice_of, choice_named, token, token_by_kind, install_token, version_named, is_recommends_of};
-ghost use Rattle.universe.specs.Said.{token_said};
+ghost use Rattle.universe.specs.Said.{token_said, IsKept};
 
 use crate::Universe;
-use crate::tokens::{Said, append, append_number, read_token};
+use crate::tokens::{Said, read_token};
+use ascii::append_number;
 use choice_set::NoMemory;
 use deb_version::{Version, compare};
 use problem::{Kind, Problem};
@@ -133,35 +134,53 @@ impl Universe {
     // Appends the token of the choice that installs a version.
     fn push_install(&self, version: u32, out: &mut Vec<u8>) -> Result<(), NoMemory>
         requires { version < length self.now.versions }
-        ensures { OnOk result (out.new.items ≡ out.old.items ++ install_token self.now version) }
+        ensures ok { OnOk result (out.new.items ≡ out.old.items ++ install_token self.now version) }
+        ensures kept { IsKept out.old.items out.new.items }
     {
-        append(out, self.name(self.problem.package_of(version)))?;
+        out.extend_from_slice(self.name(self.problem.package_of(version)))?;
         match self.version_text(version) {
-            None => append(out, b"-")?,
+            None => out.extend_from_slice(b"-")?,
             Some(text) => {
-                append(out, b"=")?;
-                append(out, text)?;
+                out.extend_from_slice(b"=")?;
+                out.extend_from_slice(text)?;
             }
+        }
+        Ok(())
+    }
+
+    // Appends the token of a choice; after want of memory a part of it may stand there.
+    fn push_token(&self, problem: &Problem, choice: u32, out: &mut Vec<u8>) -> Result<(), NoMemory>
+        requires { IsProblemOf self.now problem.now }
+        ensures ok { OnOk result (out.new.items ≡ out.old.items ++ token self.now problem.now choice) }
+        ensures kept { IsKept out.old.items out.new.items }
+    {
+        match problem.kind(choice) {
+            Kind::Install(version) => self.push_install(version, out)?,
+            Kind::Leave(dep) => {
+                self.push_install(problem.source(dep), out)?;
+                out.extend_from_slice(b"/")?;
+                append_number(out, u64::from(self.group_of(dep)))?;
+            }
+            Kind::NoChoice => {}
         }
         Ok(())
     }
 
     /// Appends the token of a choice of a problem with the dependencies of this universe: `name-` for the removal of a package,
     /// `name=version` for a version as it was first read, and `name=version/K` for leaving the K-th group of its Recommends.
-    /// A number that is no choice has none. After want of memory a part of it may stand there.
+    /// A number that is no choice has none. After want of memory `out` is as before.
     pub fn token(&self, problem: &Problem, choice: u32, out: &mut Vec<u8>) -> Result<(), NoMemory>
         requires { IsProblemOf self.now problem.now }
-        ensures { OnOk result (out.new.items ≡ out.old.items ++ token self.now problem.now choice) }
+        ensures ok { OnOk result (out.new.items ≡ out.old.items ++ token self.now problem.now choice) }
+        ensures err { OnErr result (out.new.items ≡ out.old.items) }
     {
-        match problem.kind(choice) {
-            Kind::Install(version) => self.push_install(version, out)?,
-            Kind::Leave(dep) => {
-                self.push_install(problem.source(dep), out)?;
-                append(out, b"/")?;
-                append_number(out, self.group_of(dep))?;
+        let before = out.len();
+        match self.push_token(problem, choice, out) {
+            Ok(()) => Ok(()),
+            Err(NoMemory) => {
+                out.truncate(before);
+                Err(NoMemory)
             }
-            Kind::NoChoice => {}
         }
-        Ok(())
     }
 }

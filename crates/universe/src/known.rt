@@ -31,10 +31,8 @@ fn copy_text(alloc: Global, read: Option<&ReadStanza<'_>>) -> Result<Option<Vec<
     let Some(read) = read else {
         return Ok(None);
     };
-    match Vec::from_slice(alloc, read.stanza.version.unwrap().text) {
-        Ok(text) => Ok(Some(text)),
-        Err(_) => Err(NoMemory),
-    }
+    let text = Vec::from_slice(alloc, read.stanza.version.unwrap().text)?;
+    Ok(Some(text))
 }
 
 fn is_essential(read: Option<&ReadStanza<'_>>) -> bool
@@ -69,10 +67,7 @@ pub fn known_versions(
 {
     let mut list = Vec::new(alloc);
     for version in versions {
-        let known = known(alloc, version)?;
-        let Ok(()) = list.push(known) else {
-            return Err(NoMemory);
-        };
+        list.push(known(alloc, version)?)?;
     }
     Ok(list)
 }

@@ -8,11 +8,10 @@ ghost use Rattle.std.specs.Str.Parse.{digits_value};
 ghost use Rattle.universe_model.specs.Tokens.{is_place, removal_token, release_token, group_token, version_token_of, token_of, name_in};
 ghost use Rattle.universe.specs.Said.{token_said};
 
+use ascii::{are_digits, number_of};
 use bstr::ByteSlice;
-use choice_set::NoMemory;
 use deb_version::Version;
 use dep_fields::is_package_name;
-use itoa::Buffer;
 
 /// What a token says: that a package is removed, one of its versions is installed, or a group of the Recommends of one of its
 /// versions, counted from 1, is left unmet.
@@ -44,40 +43,21 @@ fn cut(text: &[u8], mark: u8) -> Option<(&[u8], &[u8])>
     }
 }
 
-fn all_digits(text: &[u8]) -> bool
-    ensures { result ≡ list_all is_ascii_digit text.now }
-{
-    text.iter().all(|byte| byte.is_ascii_digit())
-}
-
 // Whether a text is the place of a group: 1 to 9 digits, of which the first is not `0`.
 fn is_place(digits: &[u8]) -> bool
     ensures { result ≡ is_place digits.now }
 {
     match digits {
-        [first, ..] => digits.len() <= 9 && all_digits(digits) && *first != b'0',
+        [first, ..] => digits.len() <= 9 && are_digits(digits) && *first != b'0',
         [] => false,
     }
-}
-
-// The number that up to 9 digits write.
-fn digits_value(digits: &[u8]) -> u32
-    requires few { length digits.now < 10 }
-    requires digits { list_all is_ascii_digit digits.now ≡ true }
-    ensures { result ≡ digits_value 10 digits.now }
-{
-    let mut value = 0;
-    for digit in digits {
-        value = value * 10 + (*digit - b'0') as u32;
-    }
-    value
 }
 
 fn read_place(digits: &[u8]) -> Option<u32>
     ensures { result ≡ cond (is_place digits.now) (Some (digits_value 10 digits.now)) None }
 {
     if is_place(digits) {
-        Some(digits_value(digits))
+        Some(number_of(digits))
     } else {
         None
     }
@@ -132,22 +112,4 @@ pub fn read_token(text: &[u8]) -> Option<Said<'_>>
         Some((name, rest)) => read_version_token(name, rest),
         None => read_removal(text),
     }
-}
-
-/// Appends bytes.
-pub fn append(out: &mut Vec<u8>, bytes: &[u8]) -> Result<(), NoMemory>
-    ensures { OnOk result (out.new.items ≡ out.old.items ++ bytes.now) }
-{
-    match out.extend_from_slice(bytes) {
-        Ok(()) => Ok(()),
-        Err(_) => Err(NoMemory),
-    }
-}
-
-/// Appends a number in decimal.
-pub fn append_number(out: &mut Vec<u8>, number: u32) -> Result<(), NoMemory>
-    ensures { OnOk result (out.new.items ≡ out.old.items ++ decimal number) }
-{
-    let mut buffer = Buffer::new();
-    append(out, buffer.format(number).as_bytes())
 }

@@ -1,6 +1,3 @@
+pub mod Orders
 pub mod Samples
 pub mod RowsThree
-pub mod RowsProvides
-pub mod RowsRecommends
-pub mod RowsTools
-pub mod RowsTexts

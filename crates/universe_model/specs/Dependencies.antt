@@ -1,8 +1,9 @@
 -- The dependencies of versions (Debian Policy 7.2 to 7.4), after Burrows, "Modelling and Resolving Software Dependencies".
 use Rattle.std.specs.Prelude.{ℕ, Bool, true, false, not, ◌&&◌, ◌==◌, List, [], ◌++◌, map, length, Option, Some, None}
 use Rattle.std.specs.List.{filter, flat_map, list_any}
-use Rattle.choice_set.specs.Sets.{has}
-use Rattle.resolver_model.specs.Problems.{Dependency, below}
+use Rattle.lists.specs.Below.{below}
+use Rattle.lists.specs.Sets.{has}
+use Rattle.resolver_model.specs.Problems.{Dependency}
 use Rattle.dep_fields.specs.Relationships.{Relationship}
 use Rattle.universe_model.specs.Lists.{map_from, numbers_of}
 use Rattle.universe_model.specs.Versions.{Release, Version, concat, is_of}

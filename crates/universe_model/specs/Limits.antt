@@ -1,5 +1,5 @@
 -- The first limit that a universe exceeds, and the end of a build of two texts.
-use Rattle.std.specs.Prelude.{◌≤◌, ℕ, Bool, true, List, length, nat_le, Option, Some, None, option_map}
+use Rattle.std.specs.Prelude.{◌≤◌, ℕ, Bool, true, length, nat_le, Option, Some, None, option_map}
 use Rattle.std.specs.Option.{option_or}
 use Rattle.resolver_model.specs.Problems.{Problem, package_count, version_count, dependency_count}
 use Rattle.problem.specs.declared.limits.Which.TheVariants.{Packages, Versions, Dependencies, Targets}

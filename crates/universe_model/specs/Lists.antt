@@ -1,11 +1,7 @@
 -- Numbers in lists: things are numbered from 0 in their order.
-use Rattle.std.specs.Prelude.{ℕ, ◌+◌, Bool, not, List, [], ◌∷◌, map}
+use Rattle.std.specs.Prelude.{ℕ, ◌+◌, Bool, List, [], ◌∷◌, map}
 use Rattle.std.specs.List.{filter, enumerate_from}
-
--- xs without those that are the same as an earlier one
-abbrev pub distinct : {A : Type 0} → (A → A → Bool) → List A → List A
-distinct same [] = []
-distinct same (x ∷ xs) = x ∷ filter (λ y. not (same x y)) (distinct same xs)
+pub use Rattle.lists.specs.Distinct.{distinct}
 
 -- what f gives for each and its number, counted from n
 abbrev pub map_from : {A B : Type 0} → (ℕ → A → B) → ℕ → List A → List B

@@ -5,7 +5,7 @@ use Rattle.deb_version.specs.Versions.{Parts}
 use Rattle.deb_version.specs.VersionOrder.{version_order}
 use Rattle.dep_fields.specs.Operators.{holds}
 use Rattle.dep_fields.specs.Relationships.{Relationship, VersionBound}
-use Rattle.stanza.specs.Statuses.{is_same}
+use Rattle.ascii.specs.Texts.{is_same}
 use Rattle.universe_model.specs.Versions.{Release, Version, is_release_with}
 
 -- `name:any`, `name:native` and `name:` with the native architecture are read as the name alone.

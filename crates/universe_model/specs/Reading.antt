@@ -5,7 +5,7 @@ use Rattle.std.specs.Option.{option_or}
 use Rattle.std.specs.Result.{result_ok, result_err}
 use Rattle.control_file.specs.Text.{ParagraphText, Reading, reading}
 use Rattle.stanza.specs.Stanzas.{StanzaText, package_stanza, status_stanza}
-use Rattle.stanza.specs.Statuses.{is_same}
+use Rattle.ascii.specs.Texts.{is_same}
 use Rattle.stanza.specs.declared.StanzaFault.{StanzaFault}
 use Rattle.universe_model.specs.Faults.{control_end, stanza_end}
 use Rattle.universe_model.specs.declared.FileKind.{FileKind}

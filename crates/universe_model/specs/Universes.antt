@@ -2,9 +2,10 @@
 use Rattle.std.specs.Prelude.{◌≡◌, ℕ, Bool, false, ◌&&◌, ◌==◌, List, [], map, length, Option, Some, None, slice_index_or}
 use Rattle.std.specs.List.{position, position_or_len}
 use Rattle.std.specs.Option.{option_map}
+use Rattle.lists.specs.Below.{below}
 use Rattle.deb_version.specs.Versions.{Parts, parts}
-use Rattle.resolver_model.specs.Problems.{Problem, Dependency, no_dependency, below}
-use Rattle.stanza.specs.Statuses.{is_same}
+use Rattle.resolver_model.specs.Problems.{Problem, Dependency, no_dependency}
+use Rattle.ascii.specs.Texts.{is_same}
 use Rattle.universe_model.specs.Lists.{map_from}
 use Rattle.universe_model.specs.Reading.{Texts, Stanzas, stanzas_of}
 use Rattle.universe_model.specs.Versions.{Release, Version, names, versions, is_equal, is_release_with, installed_of, candidate_of, is_held}

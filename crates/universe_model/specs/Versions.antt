@@ -3,12 +3,13 @@ use Rattle.std.specs.Prelude.{ℕ, Bool, true, false, not, ◌&&◌, ◌==◌, L
 use Rattle.std.specs.List.{filter, find, list_any, position, position_or_len}
 use Rattle.std.specs.Option.{unwrap_or}
 use Rattle.std.specs.Ordering.{is_eq, is_gt}
+use Rattle.lists.specs.Distinct.{distinct}
 use Rattle.deb_version.specs.Versions.{Parts, parts}
 use Rattle.deb_version.specs.VersionOrder.{version_order}
 use Rattle.dep_fields.specs.Relationships.{Relationship}
 use Rattle.dep_fields.specs.Fields.{field_of}
-use Rattle.stanza.specs.Statuses.{is_same}
-use Rattle.universe_model.specs.Lists.{distinct, map_from}
+use Rattle.ascii.specs.Texts.{is_same}
+use Rattle.universe_model.specs.Lists.{map_from}
 use Rattle.universe_model.specs.Reading.{ReadStanza, Stanzas, all_of}
 
 -- What is read of a version: its text and its parts, whether it is essential, its relationship fields in groups, and the

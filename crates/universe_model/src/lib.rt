@@ -7,11 +7,13 @@
 
 ghost use Rattle.std.specs.Prelude.{◌≡◌};
 ghost use Rattle.universe_model.specs.Faults.{build_end};
+ghost use Rattle.universe_model.specs.declared.BuildEnd.TheVariants as ends;
 
 pub use choice_set::NoMemory;
 pub use control_file::CtlKind;
 pub use problem::{ProblemEnd, Which};
 pub use stanza::StanzaKind;
+use std::alloc::{AllocError, AllocFailed};
 
 /// The texts that may have a fault.
 #[derive(Clone, Copy, Debug, PartialEq, Eq)]
@@ -70,6 +72,30 @@ pub enum BuildEnd {
     },
     /// There was not enough memory.
     NoMemory,
+}
+
+impl From<NoMemory> for BuildEnd {
+    ghost from_gives = { λ _ end. end ≡ ends.NoMemory };
+
+    fn from(_end: NoMemory) -> BuildEnd {
+        BuildEnd::NoMemory
+    }
+}
+
+impl From<AllocError> for BuildEnd {
+    ghost from_gives = { λ _ end. end ≡ ends.NoMemory };
+
+    fn from(_error: AllocError) -> BuildEnd {
+        BuildEnd::NoMemory
+    }
+}
+
+impl<T: Drop> From<AllocFailed<T>> for BuildEnd {
+    ghost from_gives = { λ _ end. end ≡ ends.NoMemory };
+
+    fn from(_error: AllocFailed<T>) -> BuildEnd {
+        BuildEnd::NoMemory
+    }
 }
 
 impl From<ProblemEnd> for BuildEnd {

@@ -4,7 +4,7 @@ use Rattle.std.proofs.lemmas.List.{length-map}
 use Rattle.control_file.proofs.Bytes.{position_some}
 use Rattle.std.specs.List.{list_any, prefix_len, position, position_or_len}
 use Rattle.std.specs.Global.{Vec}
-use Rattle.stanza.specs.Statuses.{is_same}
+use Rattle.ascii.specs.Texts.{is_same}
 use Rattle.universe_parts.specs.Names.{texts, with_name}
 
 -- whether a kept name has these bytes

@@ -2,7 +2,7 @@
 use Rattle.std.specs.Prelude.{ℕ, List, [], ◌∷◌, ◌++◌, map, if◌then◌else◌}
 use Rattle.std.specs.List.{list_any}
 use Rattle.std.specs.Global.{Vec}
-use Rattle.stanza.specs.Statuses.{is_same}
+use Rattle.ascii.specs.Texts.{is_same}
 
 -- the bytes of each name
 abbrev pub texts : List (Vec ℕ) → List (List ℕ)

@@ -2,9 +2,9 @@
 
 ghost use Rattle.std.specs.Prelude.{◌≡◌, ◌<◌, [], ◌∷◌, ◌++◌, List, ℕ, length, is_ok, if◌then◌else◌, IfOk, OnOk, slice_get};
 ghost use Rattle.std.specs.List.{position, position_or_len};
-ghost use Rattle.stanza.specs.Statuses.{is_same};
+ghost use Rattle.ascii.specs.Texts.{is_same};
 ghost use Rattle.universe_parts.specs.Names.{with_name};
-ghost use Rattle.universe_model.specs.Lists.{distinct};
+ghost use Rattle.lists.specs.Distinct.{distinct};
 
 use choice_set::NoMemory;
 use indexmap::IndexSet;
@@ -68,12 +68,8 @@ impl Names {
         if let Some(number) = self.number_of(name) {
             return Ok(number);
         }
-        let Ok(copy) = Vec::from_slice(alloc, name) else {
-            return Err(NoMemory);
-        };
-        let Ok((number, _)) = self.set.insert_full(copy) else {
-            return Err(NoMemory);
-        };
+        let copy = Vec::from_slice(alloc, name)?;
+        let (number, _) = self.set.insert_full(copy)?;
         Ok(number)
     }
 }

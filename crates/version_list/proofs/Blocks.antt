@@ -6,21 +6,19 @@ use Rattle.std.proofs.lemmas.List.{length-map, append-nil}
 use Rattle.std.proofs.lemmas.List.Folds.{list_any-append}
 use Rattle.std.specs.List.{list_any, list_all, position_or_len}
 use Rattle.std.specs.Option.{unwrap_or}
+use Rattle.std.proofs.Math.Bool.{and-false, or-false}
+use Rattle.std.proofs.lemmas.Bool.{and_left, not-true}
+use Rattle.lists.proofs.Tests.{list_any-alike, list_all_weaker}
 use Rattle.deb_version.specs.Versions.{parts}
 use Rattle.universe_model.specs.Reading.{ReadStanza}
 use Rattle.universe_model.specs.Versions.{Version, version_of, release_of, version_text, is_of, is_greatest, is_later_than, is_version_of, absent_of, candidate_of, is_equal}
 use Rattle.version_list.specs.Rows.{RowText, row_versions, is_later_version, is_top, candidate_place, behind_absent}
-use Rattle.version_list.proofs.Bools.{not-true}
 use Rattle.version_list.proofs.OneStanza.{same_version-equivalence}
-use Rattle.version_list.proofs.Tops.{position-skip, position-here, list_any-nowhere, list_all-weaker}
+use Rattle.version_list.proofs.Tops.{position-skip, position-here, list_any-nowhere}
 
 -- none of the versions is of the package
 abbrev pub has_none : ℕ → List Version → Bool
 has_none q vs = list_all (λ v. not (is_of q v)) vs
-
-and-first : (a b : Bool) → a ≡ false → (a && b) ≡ false
-and-first true b e = absurd (cc)
-and-first false b e = refl
 
 and-passes : (a b : Bool) → a ≡ true → (a && b) ≡ b
 and-passes true b e = refl
@@ -29,19 +27,11 @@ and-passes false b e = absurd (cc)
 -- a test on versions of the package fails where none is
 none-passes : (q : ℕ) (p : Version → Bool) (vs : List Version) → has_none q vs ≡ true → list_all (λ v. not (is_of q v && p v)) vs ≡ true
 none-passes q p vs h =
-    list_all-weaker (λ v. not (is_of q v)) (λ v. not (is_of q v && p v)) (λ v e. ap not (and-first (is_of q v) (p v) (not-true (is_of q v) e))) vs h
+    list_all_weaker (λ v. not (is_of q v)) (λ v. not (is_of q v && p v)) (λ v e. ap not (and_left (is_of q v) (p v) (not-true (is_of q v) e))) vs h
 
 list_any-map : {A B : Type 0} (f : A → B) (p : B → Bool) (xs : List A) → list_any p (map f xs) ≡ list_any (λ x. p (f x)) xs
 list_any-map f p [] = refl
 list_any-map f p (x ∷ xs) = ap (λ b. p (f x) || b) (list_any-map f p xs)
-
-list_any-alike : {A : Type 0} (p q : A → Bool) → ((x : A) → p x ≡ q x) → (xs : List A) → list_any p xs ≡ list_any q xs
-list_any-alike p q alike [] = refl
-list_any-alike p q alike (x ∷ xs) = ap (λ b. b || list_any p xs) (alike x) ∙ ap (λ b. q x || b) (list_any-alike p q alike xs)
-
-or-nothing : (a : Bool) → (a || false) ≡ a
-or-nothing true = refl
-or-nothing false = refl
 
 zero-less : (n : ℕ) → nat_lt 0 (suc n) ≡ true
 zero-less n = grind (arith, nat_tests)
@@ -82,10 +72,6 @@ block_version q row read = version_of q row.name (Some (release_of read))
 abbrev pub among : List Version → ℕ → RowText → List Version → List Version
 among front q row rest = front ++ (row_versions q row ++ rest)
 
-and-nothing : (a : Bool) → (a && false) ≡ false
-and-nothing true = refl
-and-nothing false = refl
-
 head-fails : {A : Type 0} (p : A → Bool) (x : A) (xs : List A) → p x ≡ false → position_or_len p (x ∷ xs) ≡ 1 + position_or_len p xs
 head-fails p x xs e = ap (λ b. cond (not b) (1 + position_or_len p xs) 0) e
 
@@ -117,7 +103,7 @@ module _ (q : ℕ) (row : RowText) (front rest : List Version) (before : has_non
         let absent : Version = version_of q row.name None in
         position-skip own front (row_versions q row ++ rest) (none-passes q p front before)
         ∙ ap (λ n. length front + n)
-        (head-fails own absent (map (block_version q row) row.releases ++ rest) (ap (λ b. is_of q absent && b) absent-fails ∙ and-nothing (is_of q absent))
+        (head-fails own absent (map (block_version q row) row.releases ++ rest) (ap (λ b. is_of q absent && b) absent-fails ∙ and-false (is_of q absent))
         ∙ ap (λ n. 1 + n) (position-front own (block_version q row) t (λ read. and-passes (q == q) (p (block_version q row read)) itself ∙ alike read)
         row.releases rest (none-passes q p rest behind)))
 
@@ -128,10 +114,10 @@ module _ (q : ℕ) (row : RowText) (front rest : List Version) (before : has_non
         let reads : List Version = map (block_version q row) row.releases in
         list_any-append own front (row_versions q row ++ rest)
         ∙ ap (λ b. b || list_any own (row_versions q row ++ rest)) (list_any-nowhere own front (none-passes q p front before))
-        ∙ ap (λ b. b || list_any own (reads ++ rest)) (ap (λ b. is_of q absent && b) absent-fails ∙ and-nothing (is_of q absent))
+        ∙ ap (λ b. b || list_any own (reads ++ rest)) (ap (λ b. is_of q absent && b) absent-fails ∙ and-false (is_of q absent))
         ∙ list_any-append own reads rest
         ∙ ap (λ b. list_any own reads || b) (list_any-nowhere own rest (none-passes q p rest behind))
-        ∙ or-nothing (list_any own reads)
+        ∙ or-false (list_any own reads)
         ∙ list_any-map (block_version q row) own row.releases
         ∙ list_any-alike (λ read. own (block_version q row read)) t
         (λ read. and-passes (q == q) (p (block_version q row read)) itself ∙ alike read) row.releases

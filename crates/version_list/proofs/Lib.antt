@@ -1,4 +1,3 @@
-pub mod Bools
 pub mod Tops
 pub mod OnePackage
 pub mod Others

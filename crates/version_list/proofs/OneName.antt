@@ -4,15 +4,17 @@ use Rattle.std.proofs.lemmas.Bool.Decides.{nat_tests}
 use Rattle.std.proofs.lemmas.Cmp.{nat_list_eq_equiv}
 use Rattle.std.proofs.lemmas.List.{append-nil, map-set, map_push, get_or-map, length_push, length-map}
 use Rattle.std.specs.List.{filter, list_any, list_all, position_or_len}
-use Rattle.stanza.specs.Statuses.{is_same}
-use Rattle.universe_model.specs.Lists.{distinct}
+use Rattle.std.proofs.lemmas.Bool.{or_parts, or_from, not-true, and_from}
+use Rattle.lists.proofs.Tests.{list_any-place}
+use Rattle.lists.proofs.Truth.{and_first, and_second}
+use Rattle.lists.specs.Distinct.{distinct}
+use Rattle.ascii.specs.Texts.{is_same}
 use Rattle.universe_model.specs.Reading.{ReadStanza, Stanzas, all_of}
 use Rattle.universe_model.specs.Versions.{name_of, names}
 use Rattle.universe_parts.specs.Names.{with_name}
 use Rattle.universe_parts.proofs.Distinct.{with_name-distinct}
 use Rattle.version_list.specs.declared.rows.Row.{Row}
 use Rattle.version_list.specs.Rows.{RowText, row_of, rows_of, row_read, empty_row, with_named_row, AreRows}
-use Rattle.version_list.proofs.Bools.{or-left, or-right, both-false, not-true, and-left, and-right, both-true}
 use Rattle.version_list.proofs.OneStanza.{Changes, row-missing}
 use Rattle.version_list.proofs.Tops.{position-skip, position-here}
 
@@ -23,16 +25,16 @@ is_apart [] = true
 is_apart (n ∷ ns) = not (list_any (is_same n) ns) && is_apart ns
 
 any-cases : (p : List ℕ → Bool) (n : List ℕ) (ns : List (List ℕ)) (t : Bool) → p n ≡ false → list_any p ns ≡ false → list_any p (cond t (n ∷ ns) ns) ≡ false
-any-cases p n ns true here rest = both-false (p n) (list_any p ns) here rest
+any-cases p n ns true here rest = or_from (p n) (list_any p ns) here rest
 any-cases p n ns false here rest = rest
 
 any-filter : (p k : List ℕ → Bool) (ns : List (List ℕ)) → list_any p ns ≡ false → list_any p (filter k ns) ≡ false
 any-filter p k [] e = refl
-any-filter p k (n ∷ ns) e = any-cases p n (filter k ns) (k n) (or-left (p n) (list_any p ns) e) (any-filter p k ns (or-right (p n) (list_any p ns) e))
+any-filter p k (n ∷ ns) e = any-cases p n (filter k ns) (k n) (or_parts (p n) (list_any p ns) e).0 (any-filter p k ns (or_parts (p n) (list_any p ns) e).1)
 
 kept-cases : (p : List ℕ → Bool) (n : List ℕ) (ns : List (List ℕ)) (t : Bool) → p n ≡ t → list_any p ns ≡ false → list_any p (cond (not t) (n ∷ ns) ns) ≡ false
 kept-cases p n ns true e rest = rest
-kept-cases p n ns false e rest = both-false (p n) (list_any p ns) e rest
+kept-cases p n ns false e rest = or_from (p n) (list_any p ns) e rest
 
 none-kept : (p : List ℕ → Bool) (ns : List (List ℕ)) → list_any p (filter (λ n. not (p n)) ns) ≡ false
 none-kept p [] = refl
@@ -40,20 +42,20 @@ none-kept p (n ∷ ns) = kept-cases p n (filter (λ m. not (p m)) ns) (p n) refl
 
 apart-cases : (k : List ℕ → Bool) (n : List ℕ) (ns : List (List ℕ)) (t : Bool) → list_any (is_same n) ns ≡ false → is_apart (filter k ns) ≡ true
     → is_apart (cond t (n ∷ filter k ns) (filter k ns)) ≡ true
-apart-cases k n ns true alone rest = both-true (not (list_any (is_same n) (filter k ns))) (is_apart (filter k ns)) (ap not (any-filter (is_same n) k ns alone)) rest
+apart-cases k n ns true alone rest = and_from (not (list_any (is_same n) (filter k ns))) (is_apart (filter k ns)) (ap not (any-filter (is_same n) k ns alone)) rest
 apart-cases k n ns false alone rest = rest
 
 apart-filter : (k : List ℕ → Bool) (ns : List (List ℕ)) → is_apart ns ≡ true → is_apart (filter k ns) ≡ true
 apart-filter k [] e = refl
 apart-filter k (n ∷ ns) e =
-    apart-cases k n ns (k n) (not-true (list_any (is_same n) ns) (and-left (not (list_any (is_same n) ns)) (is_apart ns) e))
-    (apart-filter k ns (and-right (not (list_any (is_same n) ns)) (is_apart ns) e))
+    apart-cases k n ns (k n) (not-true (list_any (is_same n) ns) (and_first (not (list_any (is_same n) ns)) (is_apart ns) e))
+    (apart-filter k ns (and_second (not (list_any (is_same n) ns)) (is_apart ns) e))
 
 distinct-apart : (ns : List (List ℕ)) → is_apart (distinct is_same ns) ≡ true
 distinct-apart [] = refl
 distinct-apart (n ∷ ns) =
     let rest : List (List ℕ) = filter (λ m. not (is_same n m)) (distinct is_same ns) in
-    both-true (not (list_any (is_same n) rest)) (is_apart rest) (ap not (none-kept (is_same n) (distinct is_same ns)))
+    and_from (not (list_any (is_same n) rest)) (is_apart rest) (ap not (none-kept (is_same n) (distinct is_same ns)))
     (apart-filter (λ m. not (is_same n m)) (distinct is_same ns) (distinct-apart ns))
 
 -- ---- what one name's row becomes
@@ -66,13 +68,13 @@ module _ (f g : List ℕ → RowText) (change : RowText → RowText) (name : Lis
   others-stay : (ns : List (List ℕ)) → list_any (is_same name) ns ≡ false → map g ns ≡ map f ns
   others-stay [] e = refl
   others-stay (n ∷ ns) e =
-      others-cases n ns (or-left (is_same name n) (list_any (is_same name) ns) e) (others-stay ns (or-right (is_same name n) (list_any (is_same name) ns) e))
+      others-cases n ns (or_parts (is_same name n) (list_any (is_same name) ns) e).0 (others-stay ns (or_parts (is_same name n) (list_any (is_same name) ns) e).1)
 
   alone : (n : List ℕ) (ns : List (List ℕ)) → is_same name n ≡ true → list_any (is_same n) ns ≡ false → list_any (is_same name) ns ≡ false
   alone n [] e h = refl
   alone n (m ∷ ms) e h =
-      both-false (is_same name m) (list_any (is_same name) ms) (nat_list_eq_equiv.congr name n m e ∙ or-left (is_same n m) (list_any (is_same n) ms) h)
-      (alone n ms e (or-right (is_same n m) (list_any (is_same n) ms) h))
+      or_from (is_same name m) (list_any (is_same name) ms) (nat_list_eq_equiv.congr name n m e ∙ (or_parts (is_same n m) (list_any (is_same n) ms) h).0)
+      (alone n ms e (or_parts (is_same n m) (list_any (is_same n) ms) h).1)
 
   one-cases : (n : List ℕ) (ns : List (List ℕ)) (t : Bool) (j : ℕ) (d : RowText) → is_same name n ≡ t → j ≡ position_or_len (is_same name) ns
       → list_any (is_same n) ns ≡ false
@@ -93,8 +95,8 @@ module _ (f g : List ℕ → RowText) (change : RowText → RowText) (name : Lis
   one-changes [] d e h = absurd (omega arith)
   one-changes (n ∷ ns) d e h =
       one-cases n ns (is_same name n) (position_or_len (is_same name) ns) d refl refl
-      (not-true (list_any (is_same n) ns) (and-left (not (list_any (is_same n) ns)) (is_apart ns) e))
-      (λ inside. one-changes ns d (and-right (not (list_any (is_same n) ns)) (is_apart ns) e) inside)
+      (not-true (list_any (is_same n) ns) (and_first (not (list_any (is_same n) ns)) (is_apart ns) e))
+      (λ inside. one-changes ns d (and_second (not (list_any (is_same n) ns)) (is_apart ns) e) inside)
       h
 
 -- ---- places of names
@@ -102,8 +104,8 @@ module _ (f g : List ℕ → RowText) (change : RowText → RowText) (name : Lis
 all-missing : (name : List ℕ) (ns : List (List ℕ)) → list_any (is_same name) ns ≡ false → list_all (λ n. not (is_same name n)) ns ≡ true
 all-missing name [] e = refl
 all-missing name (n ∷ ns) e =
-    both-true (not (is_same name n)) (list_all (λ m. not (is_same name m)) ns) (ap not (or-left (is_same name n) (list_any (is_same name) ns) e))
-    (all-missing name ns (or-right (is_same name n) (list_any (is_same name) ns) e))
+    and_from (not (is_same name n)) (list_all (λ m. not (is_same name m)) ns) (ap not (or_parts (is_same name n) (list_any (is_same name) ns) e).0)
+    (all-missing name ns (or_parts (is_same name n) (list_any (is_same name) ns) e).1)
 
 place-missing : (name : List ℕ) (ns : List (List ℕ)) → list_any (is_same name) ns ≡ false → position_or_len (is_same name) ns ≡ length ns
 place-missing name ns e =
@@ -160,15 +162,6 @@ filed old new' read change changes more rows place row changed are is_place insi
     ∙ ap (map (row_of new')) (names-more old new' read more)
 
 -- ---- whether a name has a row
-
-place-cases : {A : Type 0} (p : A → Bool) (x : A) (xs : List A) (t : Bool) → p x ≡ t → list_any p xs ≡ nat_lt (position_or_len p xs) (length xs)
-    → (t || list_any p xs) ≡ nat_lt (cond (not t) (1 + position_or_len p xs) 0) (suc (length xs))
-place-cases p x xs true e rest = grind (arith, nat_tests)
-place-cases p x xs false e rest = rest ∙ grind (arith, nat_tests)
-
-list_any-place : {A : Type 0} (p : A → Bool) (xs : List A) → list_any p xs ≡ nat_lt (position_or_len p xs) (length xs)
-list_any-place p [] = refl
-list_any-place p (x ∷ xs) = place-cases p x xs (p x) refl (list_any-place p xs)
 
 within-cases : (t : Bool) (n m : ℕ) → n ≤ m → cond (not t) (1 + n) 0 ≤ suc m
 within-cases true n m h = omega arith

@@ -8,7 +8,7 @@ use Rattle.deb_version.proofs.Keys.{version_order-preorder}
 use Rattle.universe_model.specs.Reading.{ReadStanza}
 use Rattle.universe_model.specs.Versions.{version_text, is_same_version}
 use Rattle.version_list.specs.Rows.{with_release, is_later_version, is_top}
-use Rattle.version_list.specs.Order.{later-itself, later-back, later-above}
+use Rattle.universe_model.proofs.Orders.{later-itself, later-back, later-above}
 use Rattle.version_list.proofs.Tops.{IsLater, best_from, best_from-whole}
 
 pub list_any-map : {A B : Type 0} (f : A → B) (p : B → Bool) (xs : List A) → list_any (λ x. p (f x)) xs ≡ list_any p (map f xs)

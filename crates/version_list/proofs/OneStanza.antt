@@ -8,17 +8,17 @@ use Rattle.std.proofs.lemmas.List.Folds.{find-append, list_any-append}
 use Rattle.std.specs.Cmp.{IsEquivalence}
 use Rattle.std.specs.List.{filter, find, list_any}
 use Rattle.std.specs.Option.{option_or}
+use Rattle.std.proofs.lemmas.Bool.{or_parts, and_right}
+use Rattle.lists.proofs.Distinct.{distinct-push, list_any-distinct}
+use Rattle.lists.specs.Distinct.{distinct}
 use Rattle.deb_version.specs.Versions.{parts}
 use Rattle.deb_version.specs.VersionOrder.{version_order}
 use Rattle.deb_version.proofs.Keys.{version_order-preorder}
-use Rattle.stanza.specs.Statuses.{is_same}
-use Rattle.universe_model.specs.Lists.{distinct}
+use Rattle.ascii.specs.Texts.{is_same}
 use Rattle.universe_model.specs.Reading.{ReadStanza, Stanzas, all_of}
 use Rattle.universe_model.specs.Versions.{name_of, names, is_named, gives_version, is_same_version, version_text}
-use Rattle.universe_parts.proofs.Distinct.{distinct-push, list_any-distinct}
 use Rattle.version_list.specs.Rows.{RowText, row_of, empty_row, wish_of, of_status, with_release, with_status_stanza, with_package_stanza}
-use Rattle.version_list.proofs.Bools.{or-left, or-right}
-use Rattle.version_list.specs.Order.{equal-equivalence}
+use Rattle.universe_model.proofs.Orders.{equal-equivalence}
 
 pub same_version-equivalence : IsEquivalence is_same_version
 same_version-equivalence = on_equiv (λ (read : ReadStanza). parts (version_text read)) (equal-equivalence version_order version_order-preorder)
@@ -98,26 +98,22 @@ package-changes status packages s other =
 
 -- ---- of a name that no stanza has
 
-and-false : (a b : Bool) → b ≡ false → (a && b) ≡ false
-and-false true b e = e
-and-false false b e = refl
-
 module _ {A : Type 0} where
   filter-none : (p q : A → Bool) → ((x : A) → p x ≡ false → q x ≡ false) → (xs : List A) → list_any p xs ≡ false → filter q xs ≡ []
   filter-none p q weaker [] e = refl
   filter-none p q weaker (x ∷ xs) e =
-      ap (λ b. cond b (x ∷ filter q xs) (filter q xs)) (weaker x (or-left (p x) (list_any p xs) e))
-      ∙ filter-none p q weaker xs (or-right (p x) (list_any p xs) e)
+      ap (λ b. cond b (x ∷ filter q xs) (filter q xs)) (weaker x (or_parts (p x) (list_any p xs) e).0)
+      ∙ filter-none p q weaker xs (or_parts (p x) (list_any p xs) e).1
 
   find-none : (p : A → Bool) (xs : List A) → list_any p xs ≡ false → find p xs ≡ None
   find-none p [] e = refl
   find-none p (x ∷ xs) e =
-      ap (λ b. cond b (Some x) (find p xs)) (or-left (p x) (list_any p xs) e) ∙ find-none p xs (or-right (p x) (list_any p xs) e)
+      ap (λ b. cond b (Some x) (find p xs)) (or_parts (p x) (list_any p xs) e).0 ∙ find-none p xs (or_parts (p x) (list_any p xs) e).1
 
   list_any-none : (p q : A → Bool) → ((x : A) → p x ≡ false → q x ≡ false) → (xs : List A) → list_any p xs ≡ false → list_any q xs ≡ false
   list_any-none p q weaker [] e = refl
   list_any-none p q weaker (x ∷ xs) e =
-      ap (λ b. b || list_any q xs) (weaker x (or-left (p x) (list_any p xs) e)) ∙ list_any-none p q weaker xs (or-right (p x) (list_any p xs) e)
+      ap (λ b. b || list_any q xs) (weaker x (or_parts (p x) (list_any p xs) e).0) ∙ list_any-none p q weaker xs (or_parts (p x) (list_any p xs) e).1
 
 named-map : (name : List ℕ) (reads : List ReadStanza) → list_any (is_same name) (map name_of reads) ≡ list_any (is_named name) reads
 named-map name [] = refl
@@ -138,8 +134,8 @@ pub row-missing : (stanzas : Stanzas) (name : List ℕ) → list_any (is_same na
 row-missing stanzas name missing =
     let anywhere = named-anywhere stanzas name missing in
     let first : list_any (is_named name) stanzas.status ≡ false =
-    or-left _ _ (sym (list_any-append (is_named name) stanzas.status stanzas.packages) ∙ anywhere) in
-    let gives : (read : ReadStanza) → is_named name read ≡ false → gives_version name read ≡ false = λ read e. and-false read.stanza.present (is_named name read) e in
+    (or_parts _ _ (sym (list_any-append (is_named name) stanzas.status stanzas.packages) ∙ anywhere)).0 in
+    let gives : (read : ReadStanza) → is_named name read ≡ false → gives_version name read ≡ false = λ read e. and_right read.stanza.present (is_named name read) e in
     same-row name _ _ _ _ _ _
     (ap (option_map wish_of) (find-none (is_named name) stanzas.status first))
     (list_any-none (is_named name) (gives_version name) gives stanzas.status first)

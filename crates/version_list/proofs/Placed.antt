@@ -4,15 +4,16 @@ use Rattle.std.proofs.lemmas.Bool.Decides.{nat_tests}
 use Rattle.std.proofs.lemmas.List.{append-nil, length-map, map-append}
 use Rattle.std.specs.List.{find, filter, list_any, list_all}
 use Rattle.std.specs.Option.{unwrap_or, option_map}
-use Rattle.resolver_model.specs.Problems.{below}
-use Rattle.universe_model.specs.Lists.{distinct, map_from}
+use Rattle.lists.proofs.Tests.{list_all_weaker, list_all-join}
+use Rattle.lists.specs.Below.{below}
+use Rattle.lists.specs.Distinct.{distinct}
+use Rattle.universe_model.specs.Lists.{map_from}
 use Rattle.universe_model.specs.Reading.{ReadStanza, Stanzas, all_of}
 use Rattle.universe_model.specs.Universes.{installed_in}
 use Rattle.universe_model.specs.Versions as universe
 use Rattle.universe_model.specs.Versions.{Release, Version, concat, version_of, release_of, is_of, absent_of, candidate_of, installed_of, version_given, gives_version, package_versions, is_same_version, is_held, is_hold, is_named}
 use Rattle.version_list.specs.Rows.{RowText, row_of, rows_of, row_versions, candidate_place, installed_place, wish_of}
 use Rattle.version_list.proofs.Blocks.{has_none, among, candidate-block, absent-block, first-block}
-use Rattle.version_list.proofs.Tops.{list_all-weaker, list_all-joined}
 
 -- the versions of packages, of which the first has the number q
 abbrev pub versions_from : ℕ → List RowText → List Version
@@ -57,7 +58,7 @@ abbrev are_before : ℕ → List Version → Bool
 are_before k vs = list_all (λ v. nat_lt v.package_number k) vs
 
 none-before : (k q : ℕ) (vs : List Version) → k ≤ q → are_before k vs ≡ true → has_none q vs ≡ true
-none-before k q vs le h = list_all-weaker (λ v. nat_lt v.package_number k) (λ v. not (is_of q v)) (λ v e. less-apart v.package_number q k le e) vs h
+none-before k q vs le h = list_all_weaker (λ v. nat_lt v.package_number k) (λ v. not (is_of q v)) (λ v e. less-apart v.package_number q k le e) vs h
 
 list_all-reads : (p : ℕ → Bool) (q : ℕ) (row : RowText) → p q ≡ true → (reads : List ReadStanza)
     → list_all (λ (v : Version). p v.package_number) (map (λ read. version_of q row.name (Some (release_of read))) reads) ≡ true
@@ -74,14 +75,14 @@ list_all-own p q row e =
 none-behind : (q k : ℕ) (rows : List RowText) → q < k → has_none q (versions_from k rows) ≡ true
 none-behind q k [] h = refl
 none-behind q k (row ∷ rows) h =
-    list_all-joined (λ v. not (is_of q v)) (row_versions k row) (versions_from (k + 1) rows)
+    list_all-join (λ v. not (is_of q v)) (row_versions k row) (versions_from (k + 1) rows)
     (list_all-own (λ n. not (n == q)) k row (grind (arith, nat_tests)))
     (none-behind q (k + 1) rows (omega arith))
 
 before-more : (k : ℕ) (vs : List Version) (row : RowText) → are_before k vs ≡ true → are_before (k + 1) (vs ++ row_versions k row) ≡ true
 before-more k vs row h =
-    list_all-joined (λ v. nat_lt v.package_number (k + 1)) vs (row_versions k row)
-    (list_all-weaker (λ v. nat_lt v.package_number k) (λ v. nat_lt v.package_number (k + 1)) (λ v e. less-more v.package_number k e) vs h)
+    list_all-join (λ v. nat_lt v.package_number (k + 1)) vs (row_versions k row)
+    (list_all_weaker (λ v. nat_lt v.package_number k) (λ v. nat_lt v.package_number (k + 1)) (λ v e. less-more v.package_number k e) vs h)
     (list_all-own (λ n. nat_lt n (k + 1)) k row (grind (arith, nat_tests)))
 
 size-row : (vs : List Version) (q : ℕ) (row : RowText) → length (vs ++ row_versions q row) ≡ length vs + (length row.releases + 1)

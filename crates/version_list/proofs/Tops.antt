@@ -2,29 +2,21 @@
 use Rattle.std.proofs.Common.{◌≡◌, ℕ, ◌+◌, List, [], ◌∷◌, ◌++◌, Bool, true, false, not, cond, ◌||◌, if◌then◌else◌, refl, sym, ap, ◌∙◌, length, arith, append_assoc, append-nil, zero-add, add-zero}
 use Rattle.std.proofs.lemmas.List.{length_push}
 use Rattle.std.specs.List.{list_any, list_all, position_or_len}
-use Rattle.version_list.proofs.Bools.{or-true, both-true, and-left, and-right, not-true}
+use Rattle.std.proofs.Math.Bool.{or-true}
+use Rattle.std.proofs.lemmas.Bool.{and_from, not-true}
+use Rattle.lists.proofs.Tests.{list_all-join, list_all_weaker}
+use Rattle.lists.proofs.Truth.{and_first, and_second}
 
 module _ {A : Type 0} where
   pub position-skip : (p : A → Bool) (xs ys : List A) → list_all (λ x. not (p x)) xs ≡ true → position_or_len p (xs ++ ys) ≡ length xs + position_or_len p ys
   position-skip p [] ys h = sym (zero-add (position_or_len p ys))
   position-skip p (x ∷ xs) ys h =
-      ap (λ b. cond b (1 + position_or_len p (xs ++ ys)) 0) (and-left (not (p x)) (list_all (λ z. not (p z)) xs) h)
-      ∙ ap (λ n. 1 + n) (position-skip p xs ys (and-right (not (p x)) (list_all (λ z. not (p z)) xs) h))
+      ap (λ b. cond b (1 + position_or_len p (xs ++ ys)) 0) (and_first (not (p x)) (list_all (λ z. not (p z)) xs) h)
+      ∙ ap (λ n. 1 + n) (position-skip p xs ys (and_second (not (p x)) (list_all (λ z. not (p z)) xs) h))
       ∙ omega arith
 
   pub position-here : (p : A → Bool) (x : A) (xs : List A) → p x ≡ true → position_or_len p (x ∷ xs) ≡ 0
   position-here p x xs h = ap (λ b. cond (not b) (1 + position_or_len p xs) 0) h
-
-  pub list_all-weaker : (p q : A → Bool) → ((x : A) → p x ≡ true → q x ≡ true) → (xs : List A) → list_all p xs ≡ true → list_all q xs ≡ true
-  list_all-weaker p q weaker [] h = refl
-  list_all-weaker p q weaker (x ∷ xs) h =
-      both-true (q x) (list_all q xs) (weaker x (and-left (p x) (list_all p xs) h))
-      (list_all-weaker p q weaker xs (and-right (p x) (list_all p xs) h))
-
-  pub list_all-joined : (p : A → Bool) (xs ys : List A) → list_all p xs ≡ true → list_all p ys ≡ true → list_all p (xs ++ ys) ≡ true
-  list_all-joined p [] ys h k = k
-  list_all-joined p (x ∷ xs) ys h k =
-      both-true (p x) (list_all p (xs ++ ys)) (and-left (p x) (list_all p xs) h) (list_all-joined p xs ys (and-right (p x) (list_all p xs) h) k)
 
   pub list_any-inside : (p : A → Bool) (xs : List A) (y : A) (ys : List A) → p y ≡ true → list_any p (xs ++ y ∷ ys) ≡ true
   list_any-inside p [] y ys h = ap (λ b. b || list_any p ys) h
@@ -33,8 +25,8 @@ module _ {A : Type 0} where
   pub list_any-nowhere : (p : A → Bool) (xs : List A) → list_all (λ x. not (p x)) xs ≡ true → list_any p xs ≡ false
   list_any-nowhere p [] h = refl
   list_any-nowhere p (x ∷ xs) h =
-      ap (λ b. b || list_any p xs) (not-true (p x) (and-left (not (p x)) (list_all (λ z. not (p z)) xs) h))
-      ∙ list_any-nowhere p xs (and-right (not (p x)) (list_all (λ z. not (p z)) xs) h)
+      ap (λ b. b || list_any p xs) (not-true (p x) (and_first (not (p x)) (list_all (λ z. not (p z)) xs) h))
+      ∙ list_any-nowhere p xs (and_second (not (p x)) (list_all (λ z. not (p z)) xs) h)
 
 -- whether none of xs is later
 abbrev pub top : {A : Type 0} → (A → A → Bool) → List A → A → Bool
@@ -59,21 +51,21 @@ module _ {A : Type 0} (later : A → A → Bool) (laws : IsLater later) where
       → position_or_len (top later (xs ++ b ∷ ys)) (xs ++ b ∷ ys) ≡ length xs
   place-best xs b ys h k =
       position-skip (top later (xs ++ b ∷ ys)) xs (b ∷ ys)
-      (list_all-weaker (later b) (λ x. not (top later (xs ++ b ∷ ys) x)) (hidden xs b ys) xs h)
+      (list_all_weaker (later b) (λ x. not (top later (xs ++ b ∷ ys) x)) (hidden xs b ys) xs h)
       ∙ ap (λ n. length xs + n) (position-here (top later (xs ++ b ∷ ys)) b ys
       (ap not (list_any-nowhere (λ other. later other b) (xs ++ b ∷ ys)
-      (list_all-joined (λ other. not (later other b)) xs (b ∷ ys)
-      (list_all-weaker (later b) (λ x. not (later x b)) (λ x up. ap not (laws.back b x up)) xs h)
-      (both-true (not (later b b)) (list_all (λ y. not (later y b)) ys) (ap not (laws.itself b)) k)))))
+      (list_all-join (λ other. not (later other b)) xs (b ∷ ys)
+      (list_all_weaker (later b) (λ x. not (later x b)) (λ x up. ap not (laws.back b x up)) xs h)
+      (and_from (not (later b b)) (list_all (λ y. not (later y b)) ys) (ap not (laws.itself b)) k)))))
       ∙ add-zero (length xs)
 
   all-above : (x b : A) → later x b ≡ true → (xs ys : List A) → list_all (later b) xs ≡ true → list_all (λ y. not (later y b)) ys ≡ true
       → list_all (later x) (xs ++ b ∷ ys) ≡ true
   all-above x b up xs ys h k =
-      list_all-joined (later x) xs (b ∷ ys)
-      (list_all-weaker (later b) (later x) (λ a below. laws.above x b a up (laws.back b a below)) xs h)
-      (both-true (later x b) (list_all (later x) ys) up
-      (list_all-weaker (λ y. not (later y b)) (later x) (λ y out. laws.above x b y up (not-true (later y b) out)) ys k))
+      list_all-join (later x) xs (b ∷ ys)
+      (list_all_weaker (later b) (later x) (λ a below. laws.above x b a up (laws.back b a below)) xs h)
+      (and_from (later x b) (list_all (later x) ys) up
+      (list_all_weaker (λ y. not (later y b)) (later x) (λ y out. laws.above x b y up (not-true (later y b) out)) ys k))
 
   Best : List A → A → List A → List A → Type 0
   Best xs b ys zs =
@@ -95,7 +87,7 @@ module _ {A : Type 0} (later : A → A → Bool) (laws : IsLater later) where
       let w : List A = xs ++ b ∷ ys in
       let more : xs ++ b ∷ (ys ++ z ∷ []) ≡ w ++ z ∷ [] = sym (append_assoc xs (b ∷ ys) (z ∷ [])) in
       ap (λ n. best_from later b (length xs) n zs) (sym (ap length more ∙ length_push w z))
-      ∙ other (list_all-joined (λ y. not (later y b)) ys (z ∷ []) k (both-true (not (later z b)) true (ap not e) refl))
+      ∙ other (list_all-join (λ y. not (later y b)) ys (z ∷ []) k (and_from (not (later z b)) true (ap not e) refl))
       ∙ ap (λ all. position_or_len (top later all) all) (ap (λ front. front ++ zs) more ∙ append_assoc w (z ∷ []) zs)
 
   best_from-place : (xs : List A) (b : A) (ys zs : List A) → list_all (later b) xs ≡ true → list_all (λ y. not (later y b)) ys ≡ true → Best xs b ys zs

@@ -1,5 +1,4 @@
 pub mod Releases
-pub mod Order
 pub mod ReleaseLaws
 pub mod Rows
 pub mod Listings

@@ -1,7 +1,8 @@
 -- What is listed of stanzas: packages and versions, candidates, holds, and a problem without dependencies.
 use Rattle.std.specs.Prelude.{◌≡◌, ◌⊎◌, ◌<◌, ℕ, ◌+◌, Bool, false, List, [], ◌∷◌, ◌++◌, map, length, Option, None}
 use Rattle.std.specs.Option.{unwrap_or}
-use Rattle.resolver_model.specs.Problems.{Problem, below, package_count, version_count}
+use Rattle.lists.specs.Below.{below}
+use Rattle.resolver_model.specs.Problems.{Problem, package_count, version_count}
 use Rattle.problem.specs.declared.limits.Which.TheVariants.{Packages, Versions}
 use Rattle.problem.specs.declared.limits.ProblemEnd.{ProblemEnd}
 use Rattle.problem.specs.Builds.{with_package}

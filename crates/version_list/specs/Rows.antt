@@ -2,9 +2,9 @@
 use Rattle.std.specs.Prelude.{◌≡◌, ℕ, ◌+◌, Bool, false, not, ◌||◌, List, [], ◌∷◌, ◌++◌, map, length, nat_lt, Option, Some, None, option_map, if◌then◌else◌}
 use Rattle.std.specs.List.{filter, find, list_any, position_or_len}
 use Rattle.std.specs.Option.{option_or}
+use Rattle.lists.specs.Distinct.{distinct}
 use Rattle.deb_version.specs.Versions.{parts}
-use Rattle.stanza.specs.Statuses.{is_same}
-use Rattle.universe_model.specs.Lists.{distinct}
+use Rattle.ascii.specs.Texts.{is_same}
 use Rattle.universe_model.specs.Reading.{ReadStanza, Stanzas, all_of}
 use Rattle.universe_model.specs.Versions.{Version, names, is_named, gives_version, is_same_version, is_later, version_text, version_of, release_of}
 use Rattle.version_list.specs.declared.rows.Row.{Row}

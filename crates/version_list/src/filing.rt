@@ -2,7 +2,7 @@
 
 ghost use Rattle.std.specs.Prelude.{◌≡◌, ◌<◌, [], ◌∷◌, ◌++◌, map, length, List, OnOk, IfOk};
 ghost use Rattle.std.specs.List.{position_or_len};
-ghost use Rattle.stanza.specs.Statuses.{is_same};
+ghost use Rattle.ascii.specs.Texts.{is_same};
 ghost use Rattle.universe_model.specs.Reading as reading;
 ghost use Rattle.universe_parts.specs.Listed.{stanza_read};
 ghost use Rattle.universe_parts.specs.Names.{with_name};
@@ -30,9 +30,7 @@ fn place_of<'s, 'a>(
 {
     let place = names.add(alloc, name)?;
     if place == rows.len() {
-        let Ok(()) = rows.push(Row::new(alloc, name)) else {
-            return Err(NoMemory);
-        };
+        rows.push(Row::new(alloc, name))?;
     }
     Ok(place)
 }

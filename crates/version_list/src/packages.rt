@@ -41,18 +41,14 @@ fn push_versions<'s, 'a>(
         name: row.name,
         read: None,
     };
-    let Ok(()) = versions.push(absent) else {
-        return Err(NoMemory);
-    };
+    versions.push(absent)?;
     for release in &row.releases {
         let version = ListedVersion {
             package: number,
             name: row.name,
             read: Some(release.read),
         };
-        let Ok(()) = versions.push(version) else {
-            return Err(NoMemory);
-        };
+        versions.push(version)?;
     }
     Ok(())
 }
@@ -90,15 +86,9 @@ pub fn list_package<'s, 'a>(
     let first = listing.builder.problem().versions();
     add_package(&mut listing.builder, row)?;
     let candidate = first + row.candidate_place() as u32;
-    let Ok(()) = push_versions(&mut listing.versions, number, row) else {
-        return Err(BuildEnd::NoMemory);
-    };
-    let Ok(()) = listing.candidates.push(candidate) else {
-        return Err(BuildEnd::NoMemory);
-    };
-    let Ok(()) = listing.held.push(row.hold.unwrap_or(false)) else {
-        return Err(BuildEnd::NoMemory);
-    };
+    push_versions(&mut listing.versions, number, row)?;
+    listing.candidates.push(candidate)?;
+    listing.held.push(row.hold.unwrap_or(false))?;
     Ok(())
 }
 

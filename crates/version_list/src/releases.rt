@@ -28,10 +28,8 @@ fn is_new<'s, 'a>(
     if release.order(&releases[0]).is_eq() {
         return Ok(false);
     }
-    match others.insert(release) {
-        Ok(is_new) => Ok(is_new),
-        Err(_) => Err(NoMemory),
-    }
+    let is_new = others.insert(release)?;
+    Ok(is_new)
 }
 
 /// Adds the version of a stanza at the end, unless the stanza gives none or an equal version is there. The set has all
@@ -50,9 +48,7 @@ pub fn add_release<'s, 'a>(
     let Some(release) = Release::of(read) else {
         return Ok(());
     };
-    let Ok(()) = releases.reserve(1) else {
-        return Err(NoMemory);
-    };
+    releases.reserve(1)?;
     if !is_new(releases.as_slice(), others, release)? {
         return Ok(());
     }

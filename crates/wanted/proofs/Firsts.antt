@@ -5,7 +5,7 @@ use Rattle.std.proofs.lemmas.Bool.{cases_lt, cond-true, cond-false}
 use Rattle.std.proofs.lemmas.List.{take_more, get_or-map}
 use Rattle.std.proofs.lemmas.List.Elements.{filter_map-append}
 use Rattle.std.proofs.lemmas.List.Folds.{find-append}
-use Rattle.resolver_model.specs.Problems.{below}
+use Rattle.lists.specs.Below.{below}
 use Rattle.universe_model.specs.Universes.{Universe}
 use Rattle.wanted.specs.declared.Action.{Action}
 use Rattle.wanted.specs.Wanting.{action_of, actions_of, is_bad_after, is_bad_at, first_bad}

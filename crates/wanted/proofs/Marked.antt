@@ -4,7 +4,7 @@ use Rattle.std.specs.List.{list_any, position, before_first, after_first}
 use Rattle.std.specs.Option.{option_and_then}
 use Rattle.std.proofs.lemmas.Bool.{cond-true, cond-false}
 use Rattle.std.proofs.lemmas.List.{take_all}
-use Rattle.control_file.proofs.Bytes.{position_some, position_none}
+use Rattle.lists.proofs.Tests.{position_some, position_none}
 use Rattle.universe_model.specs.Tokens.{is_equals}
 use Rattle.universe_model.specs.Universes.{Universe, package_named}
 use Rattle.wanted.specs.declared.Action.{Action}

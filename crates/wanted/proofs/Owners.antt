@@ -8,8 +8,8 @@ use Rattle.deb_version.specs.Versions.{Parts}
 use Rattle.problem.specs.Places.{absent_of}
 use Rattle.problem.proofs.Ranges.{place_from, absent_of-range, absent_of-own}
 use Rattle.resolver_model.specs.Problems.{IsWellFormed, package_of, package_count, version_count}
-use Rattle.stanza.specs.Statuses.{is_same}
-use Rattle.universe_laws.proofs.Places.{position-is}
+use Rattle.ascii.specs.Texts.{is_same}
+use Rattle.laws_universe.proofs.Places.{position-is}
 use Rattle.universe_model.specs.Universes.{Universe, is_of, is_text_of, owner_of, nothing_known, version_numbered, version_in, problem_of, absent_in, package_named}
 use Rattle.wanted.specs.declared.Action.{Action}
 use Rattle.wanted.specs.Wanting.{IsActionOf, IsVersionOf}

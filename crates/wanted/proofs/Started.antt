@@ -4,7 +4,7 @@ use Rattle.std.proofs.lemmas.Bool.{false_from_ne_true, cond-true, cond-false}
 use Rattle.std.proofs.lemmas.List.Elements.{All-tail, All-weaker}
 use Rattle.problem.specs.Places.{IsOneOfEach}
 use Rattle.resolver_model.specs.Problems.{IsWellFormed}
-use Rattle.universe_laws.proofs.Blocks.{length-map_from, get_or-map_from}
+use Rattle.laws_universe.proofs.Blocks.{length-map_from, get_or-map_from}
 use Rattle.universe_model.specs.Lists.{map_from}
 use Rattle.universe_model.specs.Universes.{Universe, problem_of}
 use Rattle.wanted.specs.declared.Action.{Action}

@@ -2,8 +2,8 @@
 use Rattle.std.specs.Prelude.{◌≡◌, ◌<◌, ℕ, ◌-◌, Bool, true, false, cond, ◌==◌, List, [], length, take, slice_index, slice_index_or, Option, Some, None, All}
 use Rattle.std.specs.List.{list_any, find, filter_map, before_first, after_first}
 use Rattle.std.specs.Option.{option_map, option_and_then, unwrap_or}
+use Rattle.lists.specs.Below.{below}
 use Rattle.deb_version.specs.Versions.{is_version, parts}
-use Rattle.resolver_model.specs.Problems.{below}
 use Rattle.universe_model.specs.Lists.{map_from}
 use Rattle.universe_model.specs.Tokens.{is_equals}
 use Rattle.universe_model.specs.Universes.{Universe, package_named, absent_in, version_in, version_numbered}

@@ -13,8 +13,6 @@ pub fn make_room(flags: &mut Vec<bool>, package: u32) -> Result<(), NoMemory>
     if least <= flags.len() {
         return Ok(());
     }
-    match flags.resize(least, false) {
-        Ok(()) => Ok(()),
-        Err(_) => Err(NoMemory),
-    }
+    flags.resize(least, false)?;
+    Ok(())
 }

@@ -77,9 +77,7 @@ impl Wanted {
         ensures { OnOk result (self.new ≡ self.old ++ action ∷ []) }
     {
         make_room(&mut self.named, action.package_number)?;
-        let Ok(()) = self.actions.push(action) else {
-            return Err(NoMemory);
-        };
+        self.actions.push(action)?;
         self.named[action.package_number as usize] = true;
         Ok(())
     }

@@ -14,9 +14,7 @@ pub fn installed_versions(alloc: Global, problem: &Problem) -> Result<Vec<u32>, 
 {
     let mut starts = Vec::new(alloc);
     for package in 0..problem.packages() {
-        let Ok(()) = starts.push(problem.start_of(package)) else {
-            return Err(NoMemory);
-        };
+        starts.push(problem.start_of(package))?;
     }
     Ok(starts)
 }

@@ -10,19 +10,19 @@ use Rattle.requirement_list.proofs.list_requirements.Goals as goal
 
 pub returns-in_err-add_versions : goal.returns-in_err-add_versions
 returns-in_err-add_versions c =
-    let same = same_setting c.in-Ok.index (record { native = c.args.native.now; versions = map version_listed c.args.versions.now }) c.new-collected.result c.args.builder c.in-Ok.ensures c.new-collected.ensures.builder in
-    let rs = requirements (setting_of c.in-Ok.index c.new-collected.result) in
+    let same = same_setting c.in_ok-index.index (record { native = c.args.native.now; versions = map version_listed c.args.versions.now }) c.new-collected.result c.args.builder c.in_ok-index.ensures c.new-collected.ensures.builder in
+    let rs = requirements (setting_of c.in_ok-index.index c.new-collected.result) in
     let end = whole_end rs c.new-collected.result _ (c.new-collected.ensures.left rs) c.in_err-add_versions.ensures in
-    let e = err_from_is_err_and c.from_residual.result c.from_residual.ensures.1 in
+    let e = err_from_is_err_and c.from_residual-in_err-add_versions.result c.from_residual-in_err-add_versions.ensures.1 in
     let P : List Requirement → Type 0 = λ rs. IsEndOf rs c.in_err-add_versions.field-0.0 in
     rw (e.1, e.2) (subst P (ap requirements same) end)
 
 pub returns : goal.returns
 returns c =
-    let same = same_setting c.in-Ok.index (record { native = c.args.native.now; versions = map version_listed c.args.versions.now }) c.new-collected.result c.args.builder c.in-Ok.ensures c.new-collected.ensures.builder in
+    let same = same_setting c.in_ok-index.index (record { native = c.args.native.now; versions = map version_listed c.args.versions.now }) c.new-collected.result c.args.builder c.in_ok-index.ensures c.new-collected.ensures.builder in
     let old = c.new-collected.result in
     let new = c.add_versions.new.collected in
-    let rs = requirements (setting_of c.in-Ok.index old) in
+    let rs = requirements (setting_of c.in_ok-index.index old) in
     let come = c.in_ok-add_versions.ensures in
     let left = whole_left rs old new (c.new-collected.ensures.left rs) come in
     let owners = come.owners ∙ ap (λ (p : Problem). p.owners) c.new-collected.ensures.builder in

@@ -3,8 +3,8 @@ use Rattle.std.proofs.Common.{◌==◌, ◌∙◌, sym, ap}
 use Rattle.std.proofs.lemmas.List.Filters.{dedup_is}
 use Rattle.std.proofs.lemmas.List.Sorted.{list_any-IsPermutation}
 use Rattle.std.proofs.lemmas.Map.Keys.{IsStrictlyIncreasing-dedup}
-use Rattle.choice_set.specs.Sets.{has, is_rising}
-use Rattle.meeting_index.proofs.RisingLists.{is_rising-increasing, has-dedup}
+use Rattle.lists.proofs.Sets.{is_rising-increasing, has-dedup}
+use Rattle.lists.specs.Sets.{has, is_rising}
 use Rattle.meeting_index.proofs.rising.make_rising.Goals as goal
 
 pub returns-then-len-gt1-clause-rising : goal.returns-then-len-gt1-clause-rising

@@ -18,7 +18,7 @@ package_of-package-requires c =
     let p = c.loop-place.collected.builder in
     let come = c.loop-place.invariant.come in
     let walk : IsWalk s item p c.as_slice-met.result.now c.loop-place.place c.loop-place.next =
-    record { owners = come.owners ∙ c.requires.owners; starts = come.starts; all_met = c.as_slice-met.ensures.value ∙ c.in-Ok.ensures.met; there = c.loop-place-test.true; passed = c.loop-place.invariant.passed } in
+    record { owners = come.owners ∙ c.requires.owners; starts = come.starts; all_met = c.as_slice-met.ensures.value ∙ c.in_ok-met_by.ensures.met; there = c.loop-place-test.true; passed = c.loop-place.invariant.passed } in
     let P : Problem → Type 0 = λ p. get_or c.as_slice-met.result.now c.loop-place.place 0 < version_count p in
     subst P (sym c.problem.ensures) (walk_version s item p c.as_slice-met.result.now c.loop-place.place c.loop-place.next walk)
 
@@ -29,7 +29,7 @@ add_package-requires-clause-rising c =
     let p = c.loop-place.collected.builder in
     let come = c.loop-place.invariant.come in
     let walk : IsWalk s item p c.as_slice-met.result.now c.loop-place.place c.loop-place.next =
-    record { owners = come.owners ∙ c.requires.owners; starts = come.starts; all_met = c.as_slice-met.ensures.value ∙ c.in-Ok.ensures.met; there = c.loop-place-test.true; passed = c.loop-place.invariant.passed } in
+    record { owners = come.owners ∙ c.requires.owners; starts = come.starts; all_met = c.as_slice-met.ensures.value ∙ c.in_ok-met_by.ensures.met; there = c.loop-place-test.true; passed = c.loop-place.invariant.passed } in
     walk_rising s item p c.as_slice-met.result.now c.loop-place.place c.loop-place.next walk
 
 pub add_package-requires-clause-before : goal.add_package-requires-clause-before
@@ -40,7 +40,7 @@ add_package-requires-clause-before c =
     let come = c.loop-place.invariant.come in
     let met = c.as_slice-met.result.now in
     let walk : IsWalk s item p met c.loop-place.place c.loop-place.next =
-    record { owners = come.owners ∙ c.requires.owners; starts = come.starts; all_met = c.as_slice-met.ensures.value ∙ c.in-Ok.ensures.met; there = c.loop-place-test.true; passed = c.loop-place.invariant.passed } in
+    record { owners = come.owners ∙ c.requires.owners; starts = come.starts; all_met = c.as_slice-met.ensures.value ∙ c.in_ok-met_by.ensures.met; there = c.loop-place-test.true; passed = c.loop-place.invariant.passed } in
     let v = get_or met c.loop-place.place 0 in
     let own = c.package_of-package.ensures.package ∙ ap (λ (p : Problem). package_of p v) c.problem.ensures in
     let formed = subst IsWellFormed c.problem.ensures c.package_of-package.ensures.formed in
@@ -54,7 +54,7 @@ add_package-requires-clause-after c =
     let come = c.loop-place.invariant.come in
     let met = c.as_slice-met.result.now in
     let walk : IsWalk s item p met c.loop-place.place c.loop-place.next =
-    record { owners = come.owners ∙ c.requires.owners; starts = come.starts; all_met = c.as_slice-met.ensures.value ∙ c.in-Ok.ensures.met; there = c.loop-place-test.true; passed = c.loop-place.invariant.passed } in
+    record { owners = come.owners ∙ c.requires.owners; starts = come.starts; all_met = c.as_slice-met.ensures.value ∙ c.in_ok-met_by.ensures.met; there = c.loop-place-test.true; passed = c.loop-place.invariant.passed } in
     let v = get_or met c.loop-place.place 0 in
     let own = c.package_of-package.ensures.package ∙ ap (λ (p : Problem). package_of p v) c.problem.ensures in
     let formed = subst IsWellFormed c.problem.ensures c.package_of-package.ensures.formed in
@@ -68,7 +68,7 @@ returns-in_err-add_package c =
     let come = c.loop-place.invariant.come in
     let met = c.as_slice-met.result.now in
     let walk : IsWalk s item p met c.loop-place.place c.loop-place.next =
-    record { owners = come.owners ∙ c.requires.owners; starts = come.starts; all_met = c.as_slice-met.ensures.value ∙ c.in-Ok.ensures.met; there = c.loop-place-test.true; passed = c.loop-place.invariant.passed } in
+    record { owners = come.owners ∙ c.requires.owners; starts = come.starts; all_met = c.as_slice-met.ensures.value ∙ c.in_ok-met_by.ensures.met; there = c.loop-place-test.true; passed = c.loop-place.invariant.passed } in
     let v = get_or met c.loop-place.place 0 in
     let own = c.package_of-package.ensures.package ∙ ap (λ (p : Problem). package_of p v) c.problem.ensures in
     let formed = subst IsWellFormed c.problem.ensures c.package_of-package.ensures.formed in
@@ -76,7 +76,7 @@ returns-in_err-add_package c =
     let split = walk_next s c.args.source c.args.own item p met c.loop-place.place c.loop-place.next q walk formed own c.if-package-next.true in
     let all = of_conflict s c.args.source c.args.own item in
     let P : List Requirement → Type 0 = λ rs. HasCome all rs c.args.collected.now c.loop-place.collected in
-    let e = err_from_is_err_and c.from_residual.result c.from_residual.ensures.1 in
+    let e = err_from_is_err_and c.from_residual-in_err-add_package.result c.from_residual-in_err-add_package.ensures.1 in
     rw (e.1, e.2) (ended_more all (of_package p c.args.source c.args.own met q) (map (avoided s c.args.source item) (concerned_from s c.args.own item (q + 1))) c.args.collected.now c.loop-place.collected _ (subst P split come) c.in_err-add_package.ensures)
 
 pub loop-place-preserved : goal.loop-place-preserved
@@ -87,7 +87,7 @@ loop-place-preserved c =
     let come = c.loop-place.invariant.come in
     let met = c.as_slice-met.result.now in
     let walk : IsWalk s item p met c.loop-place.place c.loop-place.next =
-    record { owners = come.owners ∙ c.requires.owners; starts = come.starts; all_met = c.as_slice-met.ensures.value ∙ c.in-Ok.ensures.met; there = c.loop-place-test.true; passed = c.loop-place.invariant.passed } in
+    record { owners = come.owners ∙ c.requires.owners; starts = come.starts; all_met = c.as_slice-met.ensures.value ∙ c.in_ok-met_by.ensures.met; there = c.loop-place-test.true; passed = c.loop-place.invariant.passed } in
     let v = get_or met c.loop-place.place 0 in
     let own = c.package_of-package.ensures.package ∙ ap (λ (p : Problem). package_of p v) c.problem.ensures in
     let formed = subst IsWellFormed c.problem.ensures c.package_of-package.ensures.formed in
@@ -114,7 +114,7 @@ returns c =
     let s = setting_of c.args.index.now c.args.collected.now in
     let item = meaning c.args.item.now in
     let come = c.loop-place.invariant.come in
-    let same : c.as_slice-met.result.now ≡ met_of s item = c.as_slice-met.ensures.value ∙ c.in-Ok.ensures.met in
+    let same : c.as_slice-met.result.now ≡ met_of s item = c.as_slice-met.ensures.value ∙ c.in_ok-met_by.ensures.met in
     let none = concerned_none s c.args.own item c.loop-place.next (λ k lt. c.loop-place.invariant.passed k (omega (arith, ap length same, c.loop-place-test.false))) in
     let P : List ℕ → Type 0 = λ qs. HasCome (of_conflict s c.args.source c.args.own item) (map (avoided s c.args.source item) qs) c.args.collected.now c.loop-place.collected in
     subst P none come

@@ -9,5 +9,5 @@ list_unmet-requires-clause-order c =
     let le : absent_of c.args.problem.now c.args.package ≤ end_of c.args.problem.now c.args.package = absent-le-end c.args.problem.now c.versions-versions.ensures.formed c.args.package c.requires.range in
     omega (arith, c.absent_of-first.ensures.absent, c.end_of-end.ensures.end)
 
-pub returns-in-Ok : goal.returns-in-Ok
-returns-in-Ok c = are_left c.args.problem.now c.args.met.now c.args.package _ _ _ c.absent_of-first.ensures.absent c.end_of-end.ensures.end c.in-Ok.ensures
+pub returns : goal.returns
+returns c = are_left c.args.problem.now c.args.met.now c.args.package _ _ _ c.absent_of-first.ensures.absent c.end_of-end.ensures.end c.in_ok-list_unmet.ensures

@@ -1,5 +1,5 @@
 use Rattle.std.proofs.Common.{◌≡◌, ℕ, true, false, sym, ◌∙◌, ap, arith, Vec, Global, ◌++◌, ◌∷◌, []}
-use Rattle.choice_set.specs.Sets.{has}
+use Rattle.lists.specs.Sets.{has}
 use Rattle.requirement_list.proofs.Unmet.{unmet_none, unmet_yes, unmet_no, met_before, met_after}
 use Rattle.requirement_list.proofs.conflicts.list_unmet.Goals as goal
 use Rattle.requirement_list.proofs.conflicts.list_unmet.Goals.{then-is_met, else-is_met+in_ok-push}
@@ -23,9 +23,9 @@ loop-version-preserved c =
           }
       | else-is_met+in_ok-push w ↦
           let not_here : has met v ≡ false = cc (c.is_met.ensures.met, w.if-is_met.false) in
-          let same : c.if-is_met.targets.items ≡ w.push.new.numbers.items = ap (λ (v : Vec ℕ Global). v.items) w.targets-is in
+          let same : c.if-is_met.targets.items ≡ w.push.new.self.items = ap (λ (v : Vec ℕ Global). v.items) w.targets-is in
           record {
-            listed = same ∙ w.in_ok-push.ensures ∙ ap (λ ns. ns ++ v ∷ []) c.loop-version.invariant.listed ∙ sym (unmet_yes met c.args.first v c.loop-version.auto.version not_here);
+            listed = same ∙ w.in_ok-push.ensures.items ∙ ap (λ ns. ns ++ v ∷ []) c.loop-version.invariant.listed ∙ sym (unmet_yes met c.args.first v c.loop-version.auto.version not_here);
             before = λ k lt. omega (arith, c.loop-version.invariant.before k (omega (arith, w.place-is)));
             after = λ lt. rw w.place-is (omega (arith, c.is_met.ensures.later w.if-is_met.false (omega (arith, w.place-is))));
           }

@@ -1,6 +1,6 @@
 use Rattle.std.proofs.Common.{◌≡◌, take, false}
 use Rattle.std.specs.List.{list_any}
-use Rattle.choice_set.specs.Sets.{has}
+use Rattle.lists.specs.Sets.{has}
 use Rattle.requirement_list.proofs.groups.is_any_installed.Given as goal
 
 abbrev pub invariant-loop-version : goal.invariant-loop-version

@@ -1,5 +1,6 @@
 use Rattle.std.proofs.Common.{◌≡◌, ◌+◌, List, true, map, drop, sym, subst}
 use Rattle.std.proofs.lemmas.Result.{err_from_is_err_and}
+use Rattle.lists.proofs.Cuts.{drop_at}
 use Rattle.universe_model.specs.Lists.{map_from}
 use Rattle.universe_model.specs.Versions.{concat}
 use Rattle.universe_model.specs.Limits.{are_groups_few}
@@ -9,7 +10,7 @@ use Rattle.universe_parts.specs.declared.listed.ListedVersion.{ListedVersion}
 use Rattle.requirement_list.specs.Settings.{setting_of}
 use Rattle.requirement_list.specs.Collecting.{HasCome}
 use Rattle.requirement_list.proofs.Collecting.{ended_step}
-use Rattle.requirement_list.proofs.Wholes.{passes_at, drop_at}
+use Rattle.requirement_list.proofs.Wholes.{passes_at}
 use Rattle.requirement_list.proofs.versions.add_versions.Goals as goal
 
 pub add_version-requires-clause-few : goal.add_version-requires-clause-few

@@ -33,15 +33,15 @@ invariant_of-result c = record {
       (ap (map version_listed) c.as_slice-versions.ensures.value ∙ c.in_ok-names.ensures.versions) c.in_ok-names.ensures.problem c.in_ok-list.list.problem c.in_ok-names.field-0.candidates.items
       c.in_ok-list.ensures.problem c.in_ok-names.ensures.candidates (c.candidates_are_versions.ensures (stanzas_read c.args.status.now c.args.packages.now) c.args.native.now);
   owners = owners-same c.args.native.now (stanzas_read c.args.status.now c.args.packages.now) (map version_listed c.as_slice-versions.result.now) c.in_ok-names.field-0.builder
-      (ap (map version_listed) c.as_slice-versions.ensures.value ∙ c.in_ok-names.ensures.versions) c.in_ok-names.ensures.problem c.in_ok-list.list.problem (map known_version c.in-Ok.known.items)
-      c.in_ok-list.ensures.problem c.in-Ok.ensures.known;
+      (ap (map version_listed) c.as_slice-versions.ensures.value ∙ c.in_ok-names.ensures.versions) c.in_ok-names.ensures.problem c.in_ok-list.list.problem (map known_version c.in_ok-known.known.items)
+      c.in_ok-list.ensures.problem c.in_ok-known.ensures.known;
   groups = count-of-dependencies c.args.native.now (stanzas_read c.args.status.now c.args.packages.now) (map version_listed c.as_slice-versions.result.now) c.in_ok-names.field-0.builder
       (ap (map version_listed) c.as_slice-versions.ensures.value ∙ c.in_ok-names.ensures.versions) c.in_ok-names.ensures.problem c.in_ok-list.list.problem group_in c.in_ok-list.list.groups.items
       c.in_ok-list.ensures.problem c.in_ok-list.ensures.groups;
   conflicts = count-of-dependencies c.args.native.now (stanzas_read c.args.status.now c.args.packages.now) (map version_listed c.as_slice-versions.result.now) c.in_ok-names.field-0.builder
       (ap (map version_listed) c.as_slice-versions.ensures.value ∙ c.in_ok-names.ensures.versions) c.in_ok-names.ensures.problem c.in_ok-list.list.problem conflict_in c.in_ok-list.list.conflicts.items
       c.in_ok-list.ensures.problem c.in_ok-list.ensures.conflicts;
-  texts = c.in-Ok.ensures.sound;
+  texts = c.in_ok-known.ensures.sound;
 }
 
 pub returns : goal.returns
@@ -52,13 +52,13 @@ returns c = record {
     installed = c.in_ok-list.list.problem.starts;
     candidates = c.in_ok-names.field-0.candidates.items;
     held = c.in_ok-names.field-0.held.items;
-    versions = map known_version c.in-Ok.known.items;
+    versions = map known_version c.in_ok-known.known.items;
     requirements = requirements_of c.in_ok-list.list.problem.dependencies c.in_ok-list.list.groups.items c.in_ok-list.list.conflicts.items;
-  }) c.in_ok-native.ensures
+  }) c.in_ok-native.ensures.items
       ∙ universe-same c.args.native.now (stanzas_read c.args.status.now c.args.packages.now) (map version_listed c.as_slice-versions.result.now) c.in_ok-names.field-0.builder
       (ap (map version_listed) c.as_slice-versions.ensures.value ∙ c.in_ok-names.ensures.versions) c.in_ok-names.ensures.problem
-      c.in_ok-names.field-0.names c.in_ok-names.field-0.candidates.items c.in_ok-names.field-0.held.items (map known_version c.in-Ok.known.items) c.in_ok-list.list.problem c.in_ok-list.list.groups.items c.in_ok-list.list.conflicts.items
-      c.in_ok-names.ensures.names c.in_ok-names.ensures.candidates c.in_ok-names.ensures.held c.in-Ok.ensures.known c.in_ok-list.ensures.problem
+      c.in_ok-names.field-0.names c.in_ok-names.field-0.candidates.items c.in_ok-names.field-0.held.items (map known_version c.in_ok-known.known.items) c.in_ok-list.list.problem c.in_ok-list.list.groups.items c.in_ok-list.list.conflicts.items
+      c.in_ok-names.ensures.names c.in_ok-names.ensures.candidates c.in_ok-names.ensures.held c.in_ok-known.ensures.known c.in_ok-list.ensures.problem
       c.in_ok-list.ensures.groups c.in_ok-list.ensures.conflicts;
   within = no-end c.args.native.now (stanzas_read c.args.status.now c.args.packages.now) (map version_listed c.as_slice-versions.result.now) c.in_ok-names.field-0.builder
       (ap (map version_listed) c.as_slice-versions.ensures.value ∙ c.in_ok-names.ensures.versions) c.in_ok-names.ensures.problem c.in_ok-names.ensures.within c.in_ok-list.ensures.within;

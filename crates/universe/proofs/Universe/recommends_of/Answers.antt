@@ -1,7 +1,7 @@
 use Rattle.std.proofs.Common.{sym, arith}
 use Rattle.universe_model.specs.Tokens.{is_recommends_of}
 use Rattle.universe_model.specs.Universes.{no_requirement}
-use Rattle.universe_laws.proofs.Places.{position-some}
+use Rattle.laws_universe.proofs.Places.{position-some}
 use Rattle.universe.proofs.Kept.{count-same}
 use Rattle.universe.proofs.Walks.{position-none}
 use Rattle.universe.proofs.Universe.recommends_of.Goals as goal

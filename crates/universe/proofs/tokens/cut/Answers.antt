@@ -1,6 +1,6 @@
 use Rattle.std.proofs.Common.{Some, None, ◌==◌, take, drop, ap, ◌+◌, ◌-◌, ◌∙◌, length, length-drop, arith}
 use Rattle.std.proofs.lemmas.List.{take_all}
-use Rattle.control_file.proofs.Bytes.{position_some, position_none}
+use Rattle.lists.proofs.Tests.{position_some, position_none}
 use Rattle.universe.proofs.FirstBytes.{first-byte}
 use Rattle.universe.proofs.tokens.cut.Goals as goal
 

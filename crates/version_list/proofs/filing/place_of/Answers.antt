@@ -2,24 +2,24 @@
 use Rattle.std.proofs.Common.{◌≡◌, ◌<◌, [], ◌∷◌, ◌++◌, map, length, ap, ◌∙◌, arith}
 use Rattle.std.proofs.lemmas.List.{map_push, length-map}
 use Rattle.std.specs.List.{position_or_len}
-use Rattle.stanza.specs.Statuses.{is_same}
+use Rattle.ascii.specs.Texts.{is_same}
 use Rattle.version_list.specs.Rows.{RowText, row_read}
 use Rattle.version_list.proofs.OneName.{named-there, named-missing, within-apart, sizes-named}
 use Rattle.version_list.proofs.filing.place_of.Goals as goal
 
-pub returns-in-Ok-clause-rows : goal.returns-in-Ok-clause-rows
-returns-in-Ok-clause-rows c =
+pub returns-in_ok-push-clause-rows : goal.returns-in_ok-push-clause-rows
+returns-in_ok-push-clause-rows c =
     let last : position_or_len (is_same c.args.name.now) c.args.names.now ≡ length c.args.names.now =
     omega (arith, c.in_ok-place.ensures.number, c.len.ensures, c.requires, c.if-place-len.true) in
-    ap (map row_read) c.in-Ok.ensures.items
+    ap (map row_read) c.in_ok-push.ensures.items
     ∙ map_push row_read c.args.rows.now.items c.new.result
     ∙ ap (λ (row : RowText). map row_read c.args.rows.now.items ++ row ∷ []) c.new.ensures
     ∙ named-missing c.args.name.now c.args.names.now (map row_read c.args.rows.now.items) last
 
-pub returns-in-Ok-clause-sizes : goal.returns-in-Ok-clause-sizes
-returns-in-Ok-clause-sizes c =
+pub returns-in_ok-push-clause-sizes : goal.returns-in_ok-push-clause-sizes
+returns-in_ok-push-clause-sizes c =
     sizes-named c.args.names.now (map row_read c.args.rows.now.items) c.args.name.now (length-map c.args.rows.now.items row_read ∙ c.requires)
-    c.push.new.self.items c.add.new.self (returns-in-Ok-clause-rows c) c.in_ok-place.ensures.added
+    c.push.new.self.items c.add.new.self (returns-in_ok-push-clause-rows c) c.in_ok-place.ensures.added
 
 pub returns-else-place-len-clause-rows : goal.returns-else-place-len-clause-rows
 returns-else-place-len-clause-rows c =

@@ -1,7 +1,7 @@
 -- Rising numbers with those that are carried are those of the versions that meet the item.
 use Rattle.std.proofs.Common.{◌∙◌, ap, ◌++◌, length, nat_lt, arith}
 use Rattle.std.specs.List.{list_all}
-use Rattle.choice_set.specs.Sets.{has}
+use Rattle.lists.specs.Sets.{has}
 use Rattle.dep_fields.specs.Relationships.{meaning}
 use Rattle.meeting_index.specs.Carriers.{carried}
 use Rattle.meeting_index.proofs.CarrierLists.{rising-carried}

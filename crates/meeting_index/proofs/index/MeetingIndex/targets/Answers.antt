@@ -2,7 +2,7 @@
 use Rattle.std.proofs.Common.{◌≡◌, ◌∙◌, sym, ap, ◌++◌, length, nat_lt, arith}
 use Rattle.std.specs.List.{flat_map, list_all}
 use Rattle.std.proofs.lemmas.List.{append-nil}
-use Rattle.choice_set.specs.Sets.{has}
+use Rattle.lists.specs.Sets.{has}
 use Rattle.dep_fields.specs.Views.{group_items}
 use Rattle.meeting_index.specs.Carriers.{carried}
 use Rattle.meeting_index.proofs.CarrierLists.{rising-carried-any}

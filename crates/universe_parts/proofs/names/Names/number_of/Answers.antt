@@ -1,7 +1,7 @@
 -- The index of the key that is the name.
 use Rattle.std.proofs.Common.{◌∙◌, ap}
 use Rattle.std.specs.List.{position}
-use Rattle.stanza.specs.Statuses.{is_same}
+use Rattle.ascii.specs.Texts.{is_same}
 use Rattle.universe_parts.proofs.Texts.{position-texts}
 use Rattle.universe_parts.proofs.names.Names.number_of.Goals as goal
 

@@ -1,0 +1,15 @@
+pub mod Blocks
+pub mod Equality
+pub mod Places
+pub mod Packages
+pub mod States
+pub mod Groups
+pub mod Stanzas
+pub mod Releases
+pub mod Sound
+pub mod Spelled
+pub mod Found
+pub mod Choices
+pub mod Versions
+pub mod Requirements
+pub mod Universes

@@ -1,0 +1,53 @@
+//! Laws of the definitions that make a dependency problem of a dpkg status file and a packages file (Debian Policy, chapters 5
+//! and 7). The crate is there for proofs alone: no function computes anything, a contract is a law.
+#![tactic(auto)]
+
+ghost use Rattle.problem.specs.Places.{IsOneOfEach};
+ghost use Rattle.resolver_model.specs.Problems.{Problem, is_choice};
+ghost use Rattle.std.specs.List.{list_all};
+ghost use Rattle.std.specs.Prelude.{IsTrue, List, Ok, ℕ, ◌≡◌};
+ghost use Rattle.universe_model.specs.Limits.{AreWithin, are_groups_few};
+ghost use Rattle.universe_model.specs.Reading.{Stanzas, Texts, stanzas_of};
+ghost use Rattle.universe_model.specs.Tokens.{choice_of, token};
+ghost use Rattle.universe_model.specs.Universes.{IsProblemOf, Universe, problem_of, universe, universe_of};
+ghost use Rattle.universe_model.specs.Versions.{versions};
+
+/// A law: the candidates of a universe are one version of each package, in order.
+pub fn candidates_are_versions()
+    ensures { (stanzas : Stanzas) (native : List ℕ) → IsOneOfEach (problem_of (universe_of native stanzas)) (universe_of native stanzas).candidates }
+{}
+
+/// A law: the installed versions of a universe are one version of each package, in order.
+pub fn installed_are_versions()
+    ensures { (stanzas : Stanzas) (native : List ℕ) → IsOneOfEach (problem_of (universe_of native stanzas)) (universe_of native stanzas).installed }
+{}
+
+/// A law: where two texts are no longer than a file may be, no version has more than 999,999,999 groups in its Recommends.
+/// So a token names the place of each by up to 9 digits.
+pub fn groups_are_few()
+    ensures { (texts : Texts) → AreWithin texts → IsTrue (list_all are_groups_few (versions (stanzas_of texts))) }
+{}
+
+/// Laws of tokens. Where two texts are no longer than a file may be, the token of each choice of a problem beside their
+/// universe is read as that choice (`inverse`). In any universe, what a text is read as is a choice (`choices`).
+pub fn tokens_name_choices()
+    ensures inverse { (texts : Texts) → AreWithin texts → (p : Problem) → IsProblemOf (universe texts) p → (c : ℕ) → IsTrue (is_choice p c)
+        → choice_of (universe texts) p (token (universe texts) p c) ≡ Ok c }
+    ensures choices { (u : Universe) (p : Problem) → IsProblemOf u p → (text : List ℕ) (c : ℕ) → choice_of u p text ≡ Ok c → IsTrue (is_choice p c) }
+{}
+
+#[cfg(test)]
+mod tests {
+    use super::*;
+    use std::test::Fail;
+
+    #[test]
+    fn laws_are_called(rt: HostRuntime) -> Result<(), Fail> {
+        candidates_are_versions();
+        installed_are_versions();
+        groups_are_few();
+        tokens_name_choices();
+        assert!(rt; true);
+        Ok(())
+    }
+}

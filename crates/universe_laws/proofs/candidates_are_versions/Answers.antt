@@ -1,5 +1,0 @@
-use Rattle.universe_laws.proofs.States.{candidates-one_of_each}
-use Rattle.universe_laws.proofs.candidates_are_versions.Goals as goal
-
-pub returns : goal.returns
-returns c = candidates-one_of_each
