@@ -1,0 +1,4 @@
+pub mod ProgramCommand
+pub mod SampleWords
+pub mod Given
+pub mod Checked
