@@ -1,10 +1,9 @@
 -- The kinds of leaves do not depend on the order in which the leaves are listed.
-use Rattle.std.proofs.Common.{inl, inr, ◌≡◌, List, [], ◌∷◌, Bool, true, false, not, ◌&&◌, ◌||◌, refl, ap, sym, ◌∙◌}
+use Rattle.std.proofs.Common.{◌≡◌, List, Bool, not, ◌&&◌, ◌||◌, ap, sym, ◌∙◌}
 use Rattle.std.specs.List.{list_all, list_any}
 use Rattle.std.specs.Ordering.{is_le}
-use Rattle.std.proofs.lemmas.Bool.{and_from, and_parts, or_cases, or_left, or_right}
 use Rattle.std.specs.Cmp.{both_ways}
-use Rattle.lists.proofs.Members.{list_any-from_Member, list_any-Member, list_all-from_Member, list_all-Member, Member}
+use Rattle.lists.proofs.Members.{list_any-from_Member, list_any-Member, list_all-from_Member, list_all-Member}
 use Rattle.resolver_model.specs.declared.node.Node.{Node}
 use Rattle.resolver_model.specs.Costs.{cost, cost_cmp}
 use Rattle.resolver_model.specs.Trees.{Leaf, Situation, is_shut, is_finished, is_wanted, is_some_wanted, is_all_shut, key_of}

@@ -1,11 +1,9 @@
 -- Learning upwards, a line at a time: from the leaf that is split, to the leaf that it was split from, and so on.
-use Rattle.std.proofs.Common.{inl, inr, ◌≡◌, ◌≢◌, ◌⊎◌, ◌<◌, ◌≤◌, ◌+◌, ◌-◌, ℕ, zero, suc, List, [], ◌∷◌, ◌++◌, ◌||◌, true, false, cond, Some, None, Option, refl, ap, sym, subst, ◌∙◌, arith, length, length-append, append_assoc, append-nil, nat_eq, ne_eqb, eqb-true, eq-eqb}
-use Rattle.std.specs.List.{list_all}
-use Rattle.std.proofs.lemmas.Bool.{cases_eq, or_left, or_right}
+use Rattle.std.proofs.Common.{inl, inr, ◌≡◌, ◌<◌, ◌+◌, ◌-◌, ℕ, zero, suc, List, [], ◌∷◌, ◌++◌, ◌||◌, true, Some, None, Option, refl, ap, sym, subst, ◌∙◌, arith, length, length-append, append_assoc, append-nil}
+use Rattle.std.proofs.lemmas.Bool.{or_left, or_right}
 use Rattle.lists.proofs.Members.{Member}
 use Rattle.lists.proofs.Sets.{is_subset-trans}
-use Rattle.lists.specs.Sets.{with, is_subset}
-use Rattle.resolver_model.specs.declared.lines.Bound.{Bound}
+use Rattle.lists.specs.Sets.{is_subset}
 use Rattle.resolver_model.specs.declared.lines.Line.{Line}
 use Rattle.resolver_model.specs.declared.history.By.{By}
 use Rattle.resolver_model.specs.declared.history.By.TheVariants.{Dep}
@@ -14,7 +12,7 @@ use Rattle.resolver_model.specs.Problems.{Problem, resolvers}
 use Rattle.resolver_model.specs.Costs.{Table}
 use Rattle.resolver_model.specs.Lines.{is_bounded_by, is_derived}
 use Rattle.resolver_model.specs.Histories.{History, given_line, given_at, lines_at}
-use Rattle.resolver_model.specs.Births.{Birth, birth, births_at, taken_at, parent_at, parent_of, above, split_at}
+use Rattle.resolver_model.specs.Births.{Birth, births_at, taken_at, parent_of, above}
 use Rattle.resolver_model.specs.Learning.{line_at, IsCarried, LearnsFrom}
 use Rattle.resolver_model.specs.Trees.{tree_at}
 use Rattle.resolver_model.specs.Answers.{Setting}

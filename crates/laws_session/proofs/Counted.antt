@@ -1,5 +1,5 @@
 -- Where the cursor stands, and how many steps an actor made since its last answer.
-use Rattle.std.proofs.Common.{◌≡◌, ◌<◌, ◌≤◌, ◌+◌, ℕ, List, [], ◌∷◌, ◌++◌, Bool, true, false, cond, Some, None, Option, refl, ap, sym, ◌∙◌, arith, length, length-append, nat_eq}
+use Rattle.std.proofs.Common.{◌≡◌, ◌<◌, ◌≤◌, ◌+◌, ℕ, List, [], ◌∷◌, ◌++◌, Bool, true, false, cond, None, Option, refl, ap, ◌∙◌, arith, length, length-append, nat_eq}
 use Rattle.std.specs.Option.{unwrap_or}
 use Rattle.resolver_model.specs.declared.history.Command.{Command}
 use Rattle.resolver_model.specs.declared.history.Command.TheVariants as command

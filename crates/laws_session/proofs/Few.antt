@@ -1,10 +1,10 @@
 -- A history has at most three to the power of the count of choices `Put`s: each leaf has that power of its undecided choices
 -- in store, and a split leaves its children less than the leaf had.
-use Rattle.std.proofs.Common.{inl, inr, ◌≡◌, ◌≢◌, ◌⊎◌, ◌<◌, ◌≤◌, ◌+◌, ◌*◌, ◌^◌, ℕ, zero, suc, List, [], ◌∷◌, ◌++◌, Bool, true, false, cond, not, ◌&&◌, refl, ap, sym, subst, ◌∙◌, arith, nat_lt, nat_eq, eqb-true, eq-eqb, ne_eqb, length, length-append}
+use Rattle.std.proofs.Common.{inl, inr, ◌≡◌, ◌≢◌, ◌⊎◌, ◌<◌, ◌≤◌, ◌+◌, ◌*◌, ◌^◌, ℕ, zero, suc, List, [], ◌∷◌, ◌++◌, Bool, true, false, cond, not, ◌&&◌, refl, ap, sym, subst, ◌∙◌, arith, nat_lt, nat_eq, eq-eqb, ne_eqb, length, length-append}
 use Rattle.std.specs.List.{filter, flat_map, list_all, sum_by}
 use Rattle.std.proofs.Math.Nat.{pow-suc}
 use Rattle.std.proofs.lemmas.Bool.Decides.{nat_tests}
-use Rattle.std.proofs.lemmas.Bool.{and_from, and_parts, or_cases, or_left, or_right, not-true, not_from_false, false_from_ne_true}
+use Rattle.std.proofs.lemmas.Bool.{and_from, and_parts, or_left, not-true, not_from_false, false_from_ne_true}
 use Rattle.std.proofs.lemmas.List.Sums.{sum_by-cons, sum_by-append}
 use Rattle.std.proofs.lemmas.List.Elements.{filter-append}
 use Rattle.resolver_model.specs.declared.node.Node.{Node}
@@ -20,7 +20,7 @@ use Rattle.resolver_model.specs.Legal.{CanSplit, Follows, IsLegal}
 use Rattle.resolver_model.proofs.Sublists.{has-choices}
 use Rattle.std.specs.List.{fold}
 use Rattle.lists.proofs.Members.{Member}
-use Rattle.lists.proofs.Sums.{length-filter_fewer, length-filter_stricter}
+use Rattle.lists.proofs.Sums.{length-filter_fewer}
 use Rattle.lists.proofs.With.{has-with_new, has-with_old}
 use Rattle.lists.specs.Sets.{is_rising, has, with}
 use Rattle.resolver_model.specs.Histories.{puts_since, puts_after}

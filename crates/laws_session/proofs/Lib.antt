@@ -22,3 +22,4 @@ pub mod Counted
 pub mod Fitting
 pub mod Opened
 pub mod Climbing
+pub mod Staying

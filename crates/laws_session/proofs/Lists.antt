@@ -1,11 +1,7 @@
 -- Members of joined lists, and lists in which each two are apart.
-use Rattle.std.proofs.Common.{inl, inr, ◌≡◌, ◌⊎◌, ℕ, List, [], ◌∷◌, ◌++◌, Bool, true, false, cond, refl, ap, sym, subst, ◌∙◌, nat_lt, nat_eq, eqb-true, ◌<◌, zero, suc, length, get_or, arith}
-use Rattle.std.specs.List.{filter, flat_map, list_all}
-use Rattle.std.proofs.lemmas.Bool.{and_from, and_parts, or_cases, or_left, or_right}
-use Rattle.lists.proofs.Members.{Member-flat_map, Member-any, Member-flat_map_from, Member-append_cases, Member, Member-append_left, Member-append_right}
-use Rattle.lists.proofs.Sets.{has-filter_parts}
-use Rattle.lists.proofs.With.{has-with_old, has-with_cases, list_all-with_parts}
-use Rattle.lists.specs.Sets.{has, with}
+use Rattle.std.proofs.Common.{inl, inr, ◌≡◌, ◌⊎◌, List, [], ◌∷◌, ◌++◌, refl, sym, subst, ◌∙◌}
+use Rattle.std.specs.List.{flat_map}
+use Rattle.lists.proofs.Members.{Member-flat_map_from, Member-append_cases, Member}
 use Rattle.laws_session.specs.Laws.{AreApart}
 
 pub AreApart-append : {X : Type 0} (R : X → X → Type 0) (xs ys : List X) → AreApart R xs → AreApart R ys → ((x y : X) → Member x xs → Member y ys → R x y) → AreApart R (xs ++ ys)

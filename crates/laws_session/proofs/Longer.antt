@@ -1,5 +1,5 @@
 -- Histories with one more entry: legality, and induction over legal histories.
-use Rattle.std.proofs.Common.{inl, inr, ◌≡◌, ◌⊎◌, List, [], ◌∷◌, ◌++◌, refl, ap, sym, subst, ◌∙◌, append_assoc, append-nil}
+use Rattle.std.proofs.Common.{inl, inr, ◌≡◌, [], ◌∷◌, ◌++◌, refl, ap, sym, subst, ◌∙◌, append_assoc, append-nil}
 use Rattle.lists.proofs.Cuts.{not_cut, cases_last}
 use Rattle.resolver_model.specs.declared.history.Entry.{Entry}
 use Rattle.resolver_model.specs.Histories.{History}

@@ -63,7 +63,7 @@ mark_step s rules c Rejected is r = record {
   caps = r.caps;
 }
 
-with_cap-all : (f : Cap → Bool) (caps : List Cap) (level most : ℕ) → list_all f caps ≡ true → f (cap level most) ≡ true → list_all f (with_cap caps level most) ≡ true
+pub with_cap-all : (f : Cap → Bool) (caps : List Cap) (level most : ℕ) → list_all f caps ≡ true → f (cap level most) ≡ true → list_all f (with_cap caps level most) ≡ true
 with_cap-all f [] level most h k = and_from (f (cap level most)) true k refl
 with_cap-all f (c ∷ caps) level most h k =
     let parts = and_parts (f c) (list_all f caps) h in
@@ -72,7 +72,7 @@ with_cap-all f (c ∷ caps) level most h k =
       | false ↦ elim (nat_eq c.0 level) as (λ r. list_all f (cap level most ∷ cond r caps (c ∷ caps)) ≡ true) [ true ↦ and_from (f (cap level most)) _ k parts.1 | false ↦ and_from (f (cap level most)) _ k h ]
     ]
 
-without_cap-all : (f : Cap → Bool) (caps : List Cap) (level : ℕ) → list_all f caps ≡ true → list_all f (without_cap caps level) ≡ true
+pub without_cap-all : (f : Cap → Bool) (caps : List Cap) (level : ℕ) → list_all f caps ≡ true → list_all f (without_cap caps level) ≡ true
 without_cap-all f [] level h = refl
 without_cap-all f (c ∷ caps) level h =
     let parts = and_parts (f c) (list_all f caps) h in

@@ -1,5 +1,5 @@
 -- A leaf that was split by a dependency has it open at its taken list.
-use Rattle.std.proofs.Common.{inl, inr, ◌≡◌, ◌≢◌, ◌<◌, ◌+◌, ℕ, List, [], ◌∷◌, ◌++◌, true, false, cond, Some, None, Option, refl, ap, sym, subst, ◌∙◌, arith, length}
+use Rattle.std.proofs.Common.{inl, inr, ◌≡◌, ◌<◌, ◌+◌, ℕ, List, [], ◌∷◌, ◌++◌, true, Some, None, refl, ap, sym, subst, ◌∙◌, arith, length}
 use Rattle.std.proofs.lemmas.Bool.{cases_eq}
 use Rattle.resolver_model.specs.declared.node.Node.{Node}
 use Rattle.resolver_model.specs.declared.lines.Line.{Line}
@@ -9,7 +9,7 @@ use Rattle.resolver_model.specs.declared.history.Entry.{Entry}
 use Rattle.resolver_model.specs.declared.history.Entry.TheVariants.{Say, Take, Put, Back}
 use Rattle.resolver_model.specs.Problems.{Problem, dependency_count, is_open}
 use Rattle.resolver_model.specs.Trees.{Leaf, split, tree_at, node_of}
-use Rattle.resolver_model.specs.Births.{Birth, first_birth, birth, child_of, births_after, births_at, taken_at, parent_at, split_at}
+use Rattle.resolver_model.specs.Births.{Birth, first_birth, birth, child_of, births_after, births_at, taken_at, split_at}
 use Rattle.resolver_model.specs.Histories.{History, out_at}
 use Rattle.resolver_model.specs.Answers.{Setting}
 use Rattle.resolver_model.specs.Legal.{CanSplit, Follows, IsLegal}

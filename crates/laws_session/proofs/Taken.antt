@@ -1,9 +1,8 @@
 -- No two leaves take the same list.
-use Rattle.std.proofs.Common.{◌≡◌, ℕ, List, [], ◌∷◌, Bool, true, false, not, refl, ap, sym, ◌∙◌, nat_eq, eq-eqb}
-use Rattle.std.specs.List.{list_all}
-use Rattle.std.proofs.lemmas.Bool.{and_from, or_left, or_right, not-true, not_from_false, false_from_ne_true}
-use Rattle.lists.proofs.Sets.{is_disjoint-sym, list_all-from_has, list_all-has, is_subset-refl}
-use Rattle.lists.specs.Sets.{has, is_subset, is_disjoint}
+use Rattle.std.proofs.Common.{◌≡◌, true, ap, ◌∙◌}
+use Rattle.std.proofs.lemmas.Bool.{and_from}
+use Rattle.lists.proofs.Sets.{is_disjoint-sym, is_subset-refl}
+use Rattle.lists.specs.Sets.{is_subset}
 use Rattle.resolver_model.specs.Problems.{Problem}
 use Rattle.resolver_model.specs.Trees.{Tree, is_within}
 use Rattle.laws_session.specs.Laws.{IsTree, AreTakenOnce}

@@ -1,5 +1,5 @@
 -- Laws of legal histories.
-use Rattle.std.specs.Prelude.{nat_lt, ◌+◌, ◌≡◌, ◌≢◌, ◌⊎◌, ◌<◌, ◌≤◌, ◌^◌, ℕ, Bool, true, false, List, [], ◌∷◌, ◌++◌, length, IsTrue, IsFalse, Some, None, ⊤}
+use Rattle.std.specs.Prelude.{nat_lt, ◌==◌, ◌+◌, ◌≡◌, ◌≢◌, ◌⊎◌, ◌<◌, ◌≤◌, ◌^◌, ℕ, Bool, true, false, List, [], ◌∷◌, ◌++◌, length, IsTrue, IsFalse, Some, None, ⊤}
 use Rattle.std.specs.List.{filter, list_all}
 use Rattle.std.specs.Ordering.{is_le}
 use Rattle.lists.specs.Members.{Member}
@@ -12,13 +12,13 @@ use Rattle.resolver_model.specs.declared.history.Command.TheVariants.{Next}
 use Rattle.resolver_model.specs.declared.history.Reply.{Reply}
 use Rattle.resolver_model.specs.declared.history.Reply.TheVariants.{Solution, NoMore, NotYet}
 use Rattle.resolver_model.specs.declared.history.Entry.{Entry}
-use Rattle.resolver_model.specs.declared.history.Entry.TheVariants.{Say, Put}
+use Rattle.resolver_model.specs.declared.history.Entry.TheVariants.{Say, Put, Back}
 use Rattle.resolver_model.specs.Problems.{Problem, choices, dependency_count, is_open, is_choice_set, is_consistent, is_solution, resolvers}
 use Rattle.resolver_model.specs.Costs.{Table, cost, cost_cmp, IsUpTo}
 use Rattle.resolver_model.specs.Rules.{Rules, no_rules}
 use Rattle.resolver_model.specs.First.{is_obtainable, IsFirst, IsNoneLeft}
 use Rattle.resolver_model.specs.Lines.{IsSound, is_at_most, is_bounded_by, fits_table}
-use Rattle.resolver_model.specs.Trees.{Leaf, Tree, Situation, is_within, tree_at, is_shut, is_finished, is_some_wanted, is_all_shut, key_of}
+use Rattle.resolver_model.specs.Trees.{Leaf, Tree, Situation, is_within, tree_at, node_of, is_shut, is_finished, is_some_wanted, is_all_shut, key_of}
 use Rattle.resolver_model.specs.declared.history.By.TheVariants.{Dep}
 use Rattle.resolver_model.specs.Births.{Birth, birth, births_at, taken_at, split_at}
 use Rattle.resolver_model.specs.Histories.{History, given_at, cursor_at, lines_at, out_at, rules_at}
@@ -188,3 +188,14 @@ DoLinesFit s history = IsTrue (fit_table s.table (lines_at history))
 -- a leaf that was split by a dependency has it open at its taken list
 abbrev pub AreSplitsOpen : Setting → History → Type 0
 AreSplitsOpen s history = (leaf d : ℕ) → split_at history leaf ≡ Some (Dep d) → (d < dependency_count s.problem) × IsTrue (is_open s.problem (taken_at s.problem history leaf) d)
+
+-- whether an entry ends what this actor has out
+abbrev pub is_end_by : ℕ → Entry → Bool
+is_end_by who (Put actor leaf by learned) = actor == who
+is_end_by who (Back actor leaf) = actor == who
+is_end_by who _ = false
+
+-- With one entry more, an actor that has a leaf out still has it, and the leaf takes and bars the same, but where the entry ends it.
+abbrev pub IsKeptOut : Setting → History → Entry → Type 0
+IsKeptOut s history entry = (who leaf : ℕ) → out_at who history ≡ Some leaf → IsFalse (is_end_by who entry)
+    → (out_at who (history ++ entry ∷ []) ≡ Some leaf) × (node_of (tree_at s.problem (history ++ entry ∷ [])) leaf ≡ node_of (tree_at s.problem history) leaf)

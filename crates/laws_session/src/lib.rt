@@ -10,7 +10,7 @@ ghost use Rattle.resolver_model.specs.Answers.{Setting, situation_at};
 ghost use Rattle.resolver_model.specs.Births.{births_at, split_at, taken_at};
 ghost use Rattle.resolver_model.specs.Enumeration.{AreMinimalSolutions, IsWithoutRules};
 ghost use Rattle.resolver_model.specs.Histories.{History, given_at, lines_at, rules_at};
-ghost use Rattle.resolver_model.specs.Learning.{LearnsFrom};
+ghost use Rattle.resolver_model.specs.Learning.{LearnsFrom, LearnsUpwards};
 ghost use Rattle.resolver_model.specs.Legal.{Follows, IsLegal, IsSetting};
 ghost use Rattle.resolver_model.specs.Lines.{is_bounded_by};
 ghost use Rattle.resolver_model.specs.Problems.{Problem, resolvers};
@@ -18,14 +18,15 @@ ghost use Rattle.resolver_model.specs.Rules.{Rules, set_mark};
 ghost use Rattle.resolver_model.specs.Trees.{tree_at};
 ghost use Rattle.resolver_model.specs.declared.history.By.TheVariants.{Dep};
 ghost use Rattle.resolver_model.specs.declared.history.Command.TheVariants.{Next};
-ghost use Rattle.resolver_model.specs.declared.history.Entry.TheVariants.{Say};
+ghost use Rattle.resolver_model.specs.declared.history.Entry.TheVariants.{Say, Put};
 ghost use Rattle.resolver_model.specs.declared.history.Entry.{Entry};
 ghost use Rattle.resolver_model.specs.declared.history.Reply.TheVariants.{NoMore};
 ghost use Rattle.resolver_model.specs.declared.lines.Bound.TheVariants.{Impossible};
 ghost use Rattle.resolver_model.specs.declared.lines.Line.{Line};
 ghost use Rattle.resolver_model.specs.declared.marks.Mark.TheVariants.{Free};
-ghost use Rattle.laws_session.specs.Laws.{AreBirths, AreTakenOnce, AreFirstInTurn, AreHandsApart, AreLeavesTrue, AreLeavesUnsplit, AreLinesSound, ArePutsFew, AreRulesFor, IsAnsweredOnce, IsDeliveredWithoutRules, IsFreeOfSchedule, IsNeverNotYet, IsTree, IsWithinOneLeaf, is_put};
-ghost use Rattle.std.specs.Prelude.{[], ◌++◌, ◌∷◌, ◌≡◌, IsFalse, IsTrue, List, Some, ℕ};
+ghost use Rattle.laws_session.specs.Climbs.{IsClimb, IsCarriedNext};
+ghost use Rattle.laws_session.specs.Laws.{AreBirths, AreTakenOnce, AreFirstInTurn, AreHandsApart, AreLeavesTrue, AreLeavesUnsplit, AreLinesSound, ArePutsFew, AreRulesFor, AreSplitsOpen, DoLinesFit, IsAnsweredOnce, IsCursorLow, IsDeliveredWithoutRules, IsFreeOfSchedule, IsKeptOut, IsNeverNotYet, IsTree, IsWithinOneLeaf, is_put};
+ghost use Rattle.std.specs.Prelude.{[], ◌<◌, length, ◌++◌, ◌∷◌, ◌≡◌, IsFalse, IsTrue, List, Some, ℕ};
 
 /// A law: the empty history is legal, and so is a legal history with one more entry that may stand there.
 pub fn histories_grow()
@@ -106,6 +107,33 @@ pub fn minimal_solutions_come_in_turn()
         → AreMinimalSolutions s.problem (given_at history) }
 {}
 
+/// A law: with one entry more, a leaf that is out is still out, and takes and bars the same, but where the entry ends it.
+pub fn hands_stay()
+    ensures { (s : Setting) (history : History) (entry : Entry) → IsLegal s history → Follows s history entry → IsKeptOut s history entry }
+{}
+
+/// A law: the cursor stands at no delivery past the last.
+pub fn cursors_stay_low()
+    ensures { (s : Setting) (history : History) → IsLegal s history → IsCursorLow history }
+{}
+
+/// A law: the costs in lines have a component for each level of the table, and one more.
+pub fn lines_fit_the_table()
+    ensures { (s : Setting) (history : History) → IsLegal s history → DoLinesFit s history }
+{}
+
+/// A law: a leaf that was split by a dependency had it open at what it takes.
+pub fn splits_were_open()
+    ensures { (s : Setting) (history : History) → IsLegal s history → AreSplitsOpen s history }
+{}
+
+/// A law: lines that are learned one leaf after the other, from a leaf that is split upwards, to where nothing is left to be
+/// carried, are what a split has to learn.
+pub fn climbs_learn_upwards()
+    ensures { (s : Setting) (history : History) (actor leaf d : ℕ) (lines : List Line) → IsLegal s history → leaf < length (births_at s.problem history)
+        → IsClimb s history leaf (Dep d) lines → IsCarriedNext s history leaf (Dep d) lines → LearnsUpwards s history (Put actor leaf (Dep d) lines) }
+{}
+
 #[cfg(test)]
 mod tests {
     use super::*;
@@ -125,6 +153,11 @@ mod tests {
         answers_are_determined();
         dead_ends_are_learned();
         minimal_solutions_come_in_turn();
+        hands_stay();
+        cursors_stay_low();
+        lines_fit_the_table();
+        splits_were_open();
+        climbs_learn_upwards();
         assert!(rt; true);
         Ok(())
     }
