@@ -10,7 +10,8 @@ use Rattle.std.proofs.lemmas.List.Folds.{list_all-append}
 use Rattle.std.proofs.lemmas.List.Sums.{fold_push, prefix_len_is}
 use Rattle.cost_vector.specs.declared.cost_spec.Term.{Term}
 use Rattle.cost_vector.specs.declared.cost_spec.Level.{Level}
-use Rattle.cost_vector.specs.Grammar.{listed, is_letter, is_digit, is_name_byte, is_max, is_small, is_number, is_empty, decimal_value, name_of, term, term_of, sum_of, closed_of, level, level_of}
+use Rattle.std.specs.Char.{is_ascii_digit, is_ascii_lowercase}
+use Rattle.cost_vector.specs.Grammar.{listed, is_name_byte, is_max, is_small, is_number, is_empty, decimal_value, name_of, term, term_of, sum_of, closed_of, level, level_of}
 use Rattle.cost_vector.specs.declared.reader.Stop.{Stop}
 use Rattle.cost_vector.specs.declared.reader.Stop.TheVariants.{Fault, NoMemory}
 use Rattle.cost_vector.specs.Reading.{IsStart, IsStop, IsLongestStart, IsPartway, Reads, ReadsOr, OrFault, LeadsTo, IsRun, IsNumberRun, begins, is_byte, begins_with_max}
@@ -55,21 +56,21 @@ pub leads_reads : {A B : Type 0} (g : List ℕ → Option B) (f : List ℕ → O
 leads_reads g f h whole mid left value l n = rw l.split (reads_behind f g h l.bytes l.goes_on mid left value n)
 
 -- Names.
-pub name_at_none : (whole s r : List ℕ) → IsRun (is_byte 32) whole s r → begins is_letter r ≡ false → Reads name_of whole r None
+pub name_at_none : (whole s r : List ℕ) → IsRun (is_byte 32) whole s r → begins is_ascii_lowercase r ≡ false → Reads name_of whole r None
 name_at_none whole s r run h = reads_after name_of whole s r r None run name_of-blank (name_no_letter r run.ends h)
 
-no_empty_word : (r q : List ℕ) → begins is_letter r ≡ true → IsRun is_name_byte r [] q → ⊥
+no_empty_word : (r q : List ℕ) → begins is_ascii_lowercase r ≡ true → IsRun is_name_byte r [] q → ⊥
 no_empty_word [] q h run = absurd (cc)
 no_empty_word (b ∷ r) q h run = both_ways (is_name_byte b) (rw (sym run.split) at run.ends) (letter_in_name b h)
 
-first_of_word : (r : List ℕ) (b : ℕ) (w q : List ℕ) → begins is_letter r ≡ true → IsRun is_name_byte r (b ∷ w) q → is_letter b ≡ true
+first_of_word : (r : List ℕ) (b : ℕ) (w q : List ℕ) → begins is_ascii_lowercase r ≡ true → IsRun is_name_byte r (b ∷ w) q → is_ascii_lowercase b ≡ true
 first_of_word r b w q h run = rw run.split at h
 
-pub name_at_max : (whole s r w q : List ℕ) → IsRun (is_byte 32) whole s r → begins is_letter r ≡ true → IsRun is_name_byte r w q → is_max w ≡ true → Reads name_of whole q None
+pub name_at_max : (whole s r w q : List ℕ) → IsRun (is_byte 32) whole s r → begins is_ascii_lowercase r ≡ true → IsRun is_name_byte r w q → is_max w ≡ true → Reads name_of whole q None
 name_at_max whole s r [] q run h word max = absurd (no_empty_word r q h word)
 name_at_max whole s r (b ∷ w) q run h word max = reads_after name_of whole s r q None run name_of-blank (name_max r b w q word max)
 
-pub name_at : (whole s r w q t u : List ℕ) → IsRun (is_byte 32) whole s r → begins is_letter r ≡ true → IsRun is_name_byte r w q → is_max w ≡ false → IsRun (is_byte 32) q t u → Reads name_of whole u (Some w)
+pub name_at : (whole s r w q t u : List ℕ) → IsRun (is_byte 32) whole s r → begins is_ascii_lowercase r ≡ true → IsRun is_name_byte r w q → is_max w ≡ false → IsRun (is_byte 32) q t u → Reads name_of whole u (Some w)
 name_at whole s r [] q t u run h word max spaces = absurd (no_empty_word r q h word)
 name_at whole s r (b ∷ w) q t u run h word max spaces = reads_after name_of whole s r u (Some (b ∷ w)) run name_of-blank (name_read r b w t u q word (first_of_word r b w q h word) max spaces)
 
@@ -88,7 +89,7 @@ term_after whole s r left value run n = reads_after term_of whole s r left value
 pub term_times : (whole s r mid left : List ℕ) (times : ℕ) (name : Option (List ℕ)) → IsRun (is_byte 32) whole s r → LeadsTo term_of name_of (term times) r mid → Reads name_of mid left name → Reads term_of whole left (option_map (term times) name)
 term_times whole s r mid left times name run l n = term_after whole s r left (option_map (term times) name) run (leads_reads term_of name_of (term times) r mid left name l n)
 
-pub term_alone : (whole s r left : List ℕ) (name : Option (List ℕ)) → IsRun (is_byte 32) whole s r → begins is_digit r ≡ false → Reads name_of r left name → Reads term_of whole left (option_map (term 1) name)
+pub term_alone : (whole s r left : List ℕ) (name : Option (List ℕ)) → IsRun (is_byte 32) whole s r → begins is_ascii_digit r ≡ false → Reads name_of r left name → Reads term_of whole left (option_map (term 1) name)
 term_alone whole s r left name run h n = term_after whole s r left (option_map (term 1) name) run (term_plain r left name run.ends h n)
 
 -- Levels.
@@ -121,14 +122,14 @@ level_alone whole s r left terms run h n = level_after whole s r left (option_ma
 decimal-push : (digits : List ℕ) (b : ℕ) → decimal_value (digits ++ b ∷ []) ≡ decimal_value digits * 10 + (b - 48)
 decimal-push digits b = fold_push (λ value b. value * 10 + (b - 48)) 0 digits b
 
-small_parts : (digits : List ℕ) → is_small digits ≡ true → (list_all is_digit digits ≡ true) × (length digits ≤ 7) × (decimal_value digits ≤ 1000000)
+small_parts : (digits : List ℕ) → is_small digits ≡ true → (list_all is_ascii_digit digits ≡ true) × (length digits ≤ 7) × (decimal_value digits ≤ 1000000)
 small_parts digits h =
-    let value = and_parts (list_all is_digit digits && nat_le (length digits) 7) (nat_le (decimal_value digits) 1000000) h in
-    let both = and_parts (list_all is_digit digits) (nat_le (length digits) 7) value.0 in
+    let value = and_parts (list_all is_ascii_digit digits && nat_le (length digits) 7) (nat_le (decimal_value digits) 1000000) h in
+    let both = and_parts (list_all is_ascii_digit digits) (nat_le (length digits) 7) value.0 in
     (both.0, leb-true (length digits) 7 both.1, leb-true (decimal_value digits) 1000000 value.1)
 
-small_from : (digits : List ℕ) → list_all is_digit digits ≡ true → length digits ≤ 7 → decimal_value digits ≤ 1000000 → is_small digits ≡ true
-small_from digits h k v = and_from (list_all is_digit digits && nat_le (length digits) 7) (nat_le (decimal_value digits) 1000000) (and_from (list_all is_digit digits) (nat_le (length digits) 7) h (le-leb (length digits) 7 k)) (le-leb (decimal_value digits) 1000000 v)
+small_from : (digits : List ℕ) → list_all is_ascii_digit digits ≡ true → length digits ≤ 7 → decimal_value digits ≤ 1000000 → is_small digits ≡ true
+small_from digits h k v = and_from (list_all is_ascii_digit digits && nat_le (length digits) 7) (nat_le (decimal_value digits) 1000000) (and_from (list_all is_ascii_digit digits) (nat_le (length digits) 7) h (le-leb (length digits) 7 k)) (le-leb (decimal_value digits) 1000000 v)
 
 filled : (xs : List ℕ) → 0 < length xs → not (is_empty xs) ≡ true
 filled [] h = absurd (omega arith)
@@ -155,12 +156,12 @@ module _ (text : List ℕ) (place : ℕ) (lt : place < length text) where
   pub decimal_more : decimal_value (take (place + 1) text) ≡ decimal_value (take place text) * 10 + (here - 48)
   decimal_more = ap decimal_value front ∙ decimal-push (take place text) here
 
-  pub small_more : is_small (take place text) ≡ true → is_digit here ≡ true → (place ≡ 7 → ⊥) → decimal_value (take place text) * 10 + (here - 48) ≤ 1000000 → is_small (take (place + 1) text) ≡ true
+  pub small_more : is_small (take place text) ≡ true → is_ascii_digit here ≡ true → (place ≡ 7 → ⊥) → decimal_value (take place text) * 10 + (here - 48) ≤ 1000000 → is_small (take (place + 1) text) ≡ true
   small_more small digit few value =
       let facts = small_parts (take place text) small in
       let e = decimal-push (take place text) here in
       let longer = length-append (take place text) (here ∷ []) in
-      rw front (small_from (take place text ++ here ∷ []) (list_all-append is_digit (take place text) (here ∷ []) ∙ and_from (list_all is_digit (take place text)) (is_digit here && true) facts.0 (and_from (is_digit here) true digit refl)) (let c = count in omega arith) (omega arith))
+      rw front (small_from (take place text ++ here ∷ []) (list_all-append is_ascii_digit (take place text) (here ∷ []) ∙ and_from (list_all is_ascii_digit (take place text)) (is_ascii_digit here && true) facts.0 (and_from (is_ascii_digit here) true digit refl)) (let c = count in omega arith) (omega arith))
 
   -- a digit too many, another byte, or a number too large
   pub number_full : place ≡ 7 → is_number (take (place + 1) text) ≡ false
@@ -169,12 +170,12 @@ module _ (text : List ℕ) (place : ℕ) (lt : place < length text) where
       let c : length (take (place + 1) text) ≡ place + 1 = length-take-le (place + 1) text (omega arith) in
       absurd (omega (arith, facts.1)))
 
-  pub number_no_digit : is_digit here ≡ false → is_number (take (place + 1) text) ≡ false
+  pub number_no_digit : is_ascii_digit here ≡ false → is_number (take (place + 1) text) ≡ false
   number_no_digit h = false_from_ne_true (is_number (take (place + 1) text)) (λ n.
       let facts = small_parts (take (place + 1) text) (and_parts (not (is_empty (take (place + 1) text))) (is_small (take (place + 1) text)) n).1 in
-      let all : list_all is_digit (take place text ++ here ∷ []) ≡ true = rw front at facts.0 in
-      let back = and_parts (list_all is_digit (take place text)) (is_digit here && true) (sym (list_all-append is_digit (take place text) (here ∷ [])) ∙ all) in
-      both_ways (is_digit here) h (and_parts (is_digit here) true back.1).0)
+      let all : list_all is_ascii_digit (take place text ++ here ∷ []) ≡ true = rw front at facts.0 in
+      let back = and_parts (list_all is_ascii_digit (take place text)) (is_ascii_digit here && true) (sym (list_all-append is_ascii_digit (take place text) (here ∷ [])) ∙ all) in
+      both_ways (is_ascii_digit here) h (and_parts (is_ascii_digit here) true back.1).0)
 
   pub number_large : 1000000 < decimal_value (take place text) * 10 + (here - 48) → is_number (take (place + 1) text) ≡ false
   number_large h = false_from_ne_true (is_number (take (place + 1) text)) (λ n.

@@ -6,7 +6,8 @@ use Rattle.std.proofs.lemmas.Bool.{and_from, and_parts, and_right as and_false_r
 use Rattle.std.proofs.lemmas.List.{length-append}
 use Rattle.std.proofs.lemmas.List.Folds.{list_all-append}
 use Rattle.std.proofs.lemmas.List.Sums.{fold-append}
-use Rattle.cost_vector.specs.Grammar.{parts, is_empty, is_letter, is_digit, is_name_byte, is_max, is_name, is_small, is_number, decimal_value, word_of, name_of, number_of, term, times_name, term_in, term_of}
+use Rattle.std.specs.Char.{is_ascii_digit, is_ascii_lowercase}
+use Rattle.cost_vector.specs.Grammar.{parts, is_empty, is_name_byte, is_max, is_name, is_small, is_number, decimal_value, word_of, name_of, number_of, term, times_name, term_in, term_of}
 use Rattle.cost_vector.specs.Reading.{IsStop, Reads, LeadsTo, IsRun, IsNumberRun, begins, is_byte}
 use Rattle.cost_vector.proofs.Parts.{lacks, cut, cut_twice, parts-onto, parts-one, parts-at}
 use Rattle.cost_vector.proofs.Starts.{Lacks, lacks-append, is_some-option_map}
@@ -20,28 +21,28 @@ pub number_of-blank : (s text : List ℕ) → blank s ≡ true → number_of (s 
 number_of-blank s text h = ap (option_map decimal_value) (word_of-blank is_number s text h)
 
 -- a letter is a byte of names, and no digit
-pub letter_in_name : (b : ℕ) → is_letter b ≡ true → is_name_byte b ≡ true
+pub letter_in_name : (b : ℕ) → is_ascii_lowercase b ≡ true → is_name_byte b ≡ true
 letter_in_name b h = rw h refl
 
 name_bytes : (word : List ℕ) → is_name word ≡ true → list_all is_name_byte word ≡ true
 name_bytes [] h = absurd (cc)
 name_bytes (b ∷ bs) h =
-    let first = and_parts (is_letter b && list_all is_name_byte bs) (not (is_max (b ∷ bs))) h in
-    let both = and_parts (is_letter b) (list_all is_name_byte bs) first.0 in
+    let first = and_parts (is_ascii_lowercase b && list_all is_name_byte bs) (not (is_max (b ∷ bs))) h in
+    let both = and_parts (is_ascii_lowercase b) (list_all is_name_byte bs) first.0 in
     and_from (is_name_byte b) (list_all is_name_byte bs) (letter_in_name b both.0) both.1
 
-number_digits : (word : List ℕ) → is_number word ≡ true → list_all is_digit word ≡ true
+number_digits : (word : List ℕ) → is_number word ≡ true → list_all is_ascii_digit word ≡ true
 number_digits word h =
     let small = and_parts (not (is_empty word)) (is_small word) h in
-    let digits = and_parts (list_all is_digit word && nat_le (length word) 7) (nat_le (decimal_value word) 1000000) small.1 in
-    (and_parts (list_all is_digit word) (nat_le (length word) 7) digits.0).0
+    let digits = and_parts (list_all is_ascii_digit word && nat_le (length word) 7) (nat_le (decimal_value word) 1000000) small.1 in
+    (and_parts (list_all is_ascii_digit word) (nat_le (length word) 7) digits.0).0
 
 -- names have none of the other bytes of the grammar
 pub name_of-lacks : (c : ℕ) → is_name_byte c ≡ false → nat_eq 32 c ≡ false → Lacks c name_of
 name_of-lacks c no_c apart text h = lacks-word_of is_name c apart (λ word n. lacks-from is_name_byte c word no_c (name_bytes word n)) text h
 
-pub number_of-lacks : (c : ℕ) → is_digit c ≡ false → nat_eq 32 c ≡ false → Lacks c number_of
-number_of-lacks c no_c apart text h = lacks-word_of is_number c apart (λ word n. lacks-from is_digit c word no_c (number_digits word n)) text (some (word_of is_number text) h)
+pub number_of-lacks : (c : ℕ) → is_ascii_digit c ≡ false → nat_eq 32 c ≡ false → Lacks c number_of
+number_of-lacks c no_c apart text h = lacks-word_of is_number c apart (λ word n. lacks-from is_ascii_digit c word no_c (number_digits word n)) text (some (word_of is_number text) h)
   where
     some : (o : Option (List ℕ)) → is_some (option_map decimal_value o) ≡ true → is_some o ≡ true
     some None h = absurd (cc)
@@ -55,7 +56,7 @@ not_name_with front c more h =
     let back = and_parts (list_all is_name_byte front) (list_all is_name_byte (c ∷ more)) all in
     both_ways (is_name_byte c) h (and_parts (is_name_byte c) (list_all is_name_byte more) back.1).0)
 
-not_name_first : (b : ℕ) (more : List ℕ) → is_letter b ≡ false → is_name (b ∷ more) ≡ false
+not_name_first : (b : ℕ) (more : List ℕ) → is_ascii_lowercase b ≡ false → is_name (b ∷ more) ≡ false
 not_name_first b more h = rw h refl
 
 space_apart : (c : ℕ) → is_byte 32 c ≡ false → c ≡ 32 → ⊥
@@ -65,7 +66,7 @@ a_name : name_of (97 ∷ []) ≡ Some (97 ∷ [])
 a_name = refl
 
 -- Reading a name. The text does not begin with a space.
-pub name_no_letter : (r : List ℕ) → begins (is_byte 32) r ≡ false → begins is_letter r ≡ false → Reads name_of r r None
+pub name_no_letter : (r : List ℕ) → begins (is_byte 32) r ≡ false → begins is_ascii_lowercase r ≡ false → Reads name_of r r None
 name_no_letter r h k = record {
   bytes = [];
   split = refl;
@@ -74,7 +75,7 @@ name_no_letter r h k = record {
   is = refl;
 }
   where
-    stops : (r : List ℕ) → begins (is_byte 32) r ≡ false → begins is_letter r ≡ false → IsStop name_of [] r
+    stops : (r : List ℕ) → begins (is_byte 32) r ≡ false → begins is_ascii_lowercase r ≡ false → IsStop name_of [] r
     stops [] h k = tt
     stops (b ∷ bs) h k = λ rest. word_of-more is_name [] b rest refl (space_apart b h) (λ more. not_name_first b more k)
 
@@ -94,7 +95,7 @@ max_more b (c ∷ d ∷ e ∷ w) h = absurd (cc)
 pub name_max : (r : List ℕ) (b : ℕ) (w q : List ℕ) → IsRun is_name_byte r (b ∷ w) q → is_max (b ∷ w) ≡ true → Reads name_of r q None
 name_max r b w q run max =
     let free : lacks 32 (b ∷ w) ≡ true = lacks-from is_name_byte 32 (b ∷ w) refl run.all in
-    let no_name : is_name (b ∷ w) ≡ false = and_false_right (is_letter b && list_all is_name_byte w) (not (is_max (b ∷ w))) (not_from_true (is_max (b ∷ w)) max) in
+    let no_name : is_name (b ∷ w) ≡ false = and_false_right (is_ascii_lowercase b && list_all is_name_byte w) (not (is_max (b ∷ w))) (not_from_true (is_max (b ∷ w)) max) in
     let longer = max_more b w max in
     let free_longer : lacks 32 ((b ∷ w) ++ 97 ∷ []) ≡ true = lacks-append 32 (b ∷ w) (97 ∷ []) free refl in
     let value : name_of (b ∷ w) ≡ None = ap name_of (sym (append-nil (b ∷ w))) ∙ word_of-one is_name b w [] free refl ∙ rw no_name refl in
@@ -114,11 +115,11 @@ name_max r b w q run max =
       | inr other ↦ word_of-more is_name (b ∷ w) c rest free (eqb-false c 32 other) (λ more. not_name_with (b ∷ w) c more ends)
     ]
 
-pub name_read : (r : List ℕ) (b : ℕ) (w s u q : List ℕ) → IsRun is_name_byte r (b ∷ w) q → is_letter b ≡ true → is_max (b ∷ w) ≡ false → IsRun (is_byte 32) q s u → Reads name_of r u (Some (b ∷ w))
+pub name_read : (r : List ℕ) (b : ℕ) (w s u q : List ℕ) → IsRun is_name_byte r (b ∷ w) q → is_ascii_lowercase b ≡ true → is_max (b ∷ w) ≡ false → IsRun (is_byte 32) q s u → Reads name_of r u (Some (b ∷ w))
 name_read r b w s u q run letter max spaces =
     let free : lacks 32 (b ∷ w) ≡ true = lacks-from is_name_byte 32 (b ∷ w) refl run.all in
     let bytes = and_parts (is_name_byte b) (list_all is_name_byte w) run.all in
-    let named : is_name (b ∷ w) ≡ true = and_from (is_letter b && list_all is_name_byte w) (not (is_max (b ∷ w))) (and_from (is_letter b) (list_all is_name_byte w) letter bytes.1) (not_from_false (is_max (b ∷ w)) max) in
+    let named : is_name (b ∷ w) ≡ true = and_from (is_ascii_lowercase b && list_all is_name_byte w) (not (is_max (b ∷ w))) (and_from (is_ascii_lowercase b) (list_all is_name_byte w) letter bytes.1) (not_from_false (is_max (b ∷ w)) max) in
     let value : name_of ((b ∷ w) ++ s) ≡ Some (b ∷ w) = word_of-one is_name b w s free spaces.all ∙ rw named refl in
     record {
       bytes = (b ∷ w) ++ s;
@@ -179,7 +180,7 @@ term_of-times front text times h e =
     ]
 
 -- a text whose first byte is no digit and no space
-pub term_of-no_digit : (b : ℕ) (text : List ℕ) → is_digit b ≡ false → (b ≡ 32 → ⊥) → term_of (b ∷ text) ≡ option_map (term 1) (name_of (b ∷ text))
+pub term_of-no_digit : (b : ℕ) (text : List ℕ) → is_ascii_digit b ≡ false → (b ≡ 32 → ⊥) → term_of (b ∷ text) ≡ option_map (term 1) (name_of (b ∷ text))
 term_of-no_digit b text h apart = elim (cases_Bool (lacks 42 (b ∷ text))) as (λ _. term_of (b ∷ text) ≡ option_map (term 1) (name_of (b ∷ text))) [
   | inl free ↦ term_of-alone (b ∷ text) free
   | inr star ↦
@@ -212,16 +213,16 @@ decimal-le a (b ∷ more) = let up : a * 10 + (b - 48) ≤ fold (λ value b. val
 
 pub small_front : (front more : List ℕ) → is_small (front ++ more) ≡ true → is_small front ≡ true
 small_front front more h =
-    let whole = and_parts (list_all is_digit (front ++ more) && nat_le (length (front ++ more)) 7) (nat_le (decimal_value (front ++ more)) 1000000) h in
-    let both = and_parts (list_all is_digit (front ++ more)) (nat_le (length (front ++ more)) 7) whole.0 in
-    let digits = and_parts (list_all is_digit front) (list_all is_digit more) (sym (list_all-append is_digit front more) ∙ both.0) in
+    let whole = and_parts (list_all is_ascii_digit (front ++ more) && nat_le (length (front ++ more)) 7) (nat_le (decimal_value (front ++ more)) 1000000) h in
+    let both = and_parts (list_all is_ascii_digit (front ++ more)) (nat_le (length (front ++ more)) 7) whole.0 in
+    let digits = and_parts (list_all is_ascii_digit front) (list_all is_ascii_digit more) (sym (list_all-append is_ascii_digit front more) ∙ both.0) in
     let count : length (front ++ more) ≤ 7 = leb-true (length (front ++ more)) 7 both.1 in
     let value : decimal_value (front ++ more) ≤ 1000000 = leb-true (decimal_value (front ++ more)) 1000000 whole.1 in
     let counts = length-append front more in
     let values : decimal_value (front ++ more) ≡ fold (λ value b. value * 10 + (b - 48)) (decimal_value front) more = fold-append (λ value b. value * 10 + (b - 48)) 0 front more in
     let up = decimal-le (decimal_value front) more in
-    and_from (list_all is_digit front && nat_le (length front) 7) (nat_le (decimal_value front) 1000000)
-    (and_from (list_all is_digit front) (nat_le (length front) 7) digits.0 (le-leb (length front) 7 (omega arith)))
+    and_from (list_all is_ascii_digit front && nat_le (length front) 7) (nat_le (decimal_value front) 1000000)
+    (and_from (list_all is_ascii_digit front) (nat_le (length front) 7) digits.0 (le-leb (length front) 7 (omega arith)))
     (le-leb (decimal_value front) 1000000 (omega arith))
 
 not_number_with : (b : ℕ) (w : List ℕ) (c : ℕ) (more : List ℕ) → is_number ((b ∷ w) ++ c ∷ []) ≡ false → is_number ((b ∷ w) ++ c ∷ more) ≡ false
@@ -231,7 +232,7 @@ not_number_with b w c more h =
     let small : is_small ((b ∷ w) ++ c ∷ more) ≡ true = n in
     both_ways (is_number ((b ∷ w) ++ c ∷ [])) h (small_front ((b ∷ w) ++ c ∷ []) more (ap is_small regroup ∙ small)))
 
-digit_no_letter : (b : ℕ) → is_digit b ≡ true → is_letter b ≡ false
+digit_no_letter : (b : ℕ) → is_ascii_digit b ≡ true → is_ascii_lowercase b ≡ false
 digit_no_letter b h =
     let both = and_parts (nat_le 48 b) (nat_le b 57) h in
     let low : b ≤ 57 = leb-true b 57 both.1 in
@@ -240,17 +241,17 @@ digit_no_letter b h =
 
 -- Reading a number and a star.
 module _ (r : List ℕ) (b : ℕ) (w q s u : List ℕ) (run : IsNumberRun r (b ∷ w) q) (spaces : IsRun (is_byte 32) q s u) where
-  digits : list_all is_digit (b ∷ w) ≡ true
+  digits : list_all is_ascii_digit (b ∷ w) ≡ true
   digits = number_digits (b ∷ w) run.number
 
   no_space : lacks 32 (b ∷ w) ≡ true
-  no_space = lacks-from is_digit 32 (b ∷ w) refl digits
+  no_space = lacks-from is_ascii_digit 32 (b ∷ w) refl digits
 
   no_star : lacks 42 ((b ∷ w) ++ s) ≡ true
-  no_star = lacks-append 42 (b ∷ w) s (lacks-from is_digit 42 (b ∷ w) refl digits) (lacks-from (is_byte 32) 42 s refl spaces.all)
+  no_star = lacks-append 42 (b ∷ w) s (lacks-from is_ascii_digit 42 (b ∷ w) refl digits) (lacks-from (is_byte 32) 42 s refl spaces.all)
 
-  no_letter : is_letter b ≡ false
-  no_letter = digit_no_letter b (and_parts (is_digit b) (list_all is_digit w) digits).0
+  no_letter : is_ascii_lowercase b ≡ false
+  no_letter = digit_no_letter b (and_parts (is_ascii_digit b) (list_all is_ascii_digit w) digits).0
 
   value : number_of ((b ∷ w) ++ s) ≡ Some (decimal_value (b ∷ w))
   value =
@@ -302,7 +303,7 @@ module _ (r : List ℕ) (b : ℕ) (w q s u : List ℕ) (run : IsNumberRun r (b �
   }
 
 -- Reading a name alone. The text begins neither with a space nor with a digit.
-pub term_plain : (r left : List ℕ) (name : Option (List ℕ)) → begins (is_byte 32) r ≡ false → begins is_digit r ≡ false → Reads name_of r left name → Reads term_of r left (option_map (term 1) name)
+pub term_plain : (r left : List ℕ) (name : Option (List ℕ)) → begins (is_byte 32) r ≡ false → begins is_ascii_digit r ≡ false → Reads name_of r left name → Reads term_of r left (option_map (term 1) name)
 term_plain r left name h k n = record {
   bytes = n.bytes;
   split = n.split;
@@ -324,7 +325,7 @@ term_plain r left name h k n = record {
     stops (b ∷ bs) (c ∷ left) e stop = λ rest. here b (bs ++ c ∷ left) e (bs ++ c ∷ rest) ∙ ap (option_map (term 1)) (stop rest)
 
 -- terms have none of the bytes of sums and levels
-pub term_of-lacks : (c : ℕ) → is_name_byte c ≡ false → is_digit c ≡ false → nat_eq 32 c ≡ false → nat_eq 42 c ≡ false → Lacks c term_of
+pub term_of-lacks : (c : ℕ) → is_name_byte c ≡ false → is_ascii_digit c ≡ false → nat_eq 32 c ≡ false → nat_eq 42 c ≡ false → Lacks c term_of
 term_of-lacks c no_name no_digit no_space no_star text h = lacks-parts 42 c text no_star (all (parts 42 text) h)
   where
     times_some : (n : Option ℕ) (o : Option (List ℕ)) → is_some (times_name n o) ≡ true → (is_some n ≡ true) × (is_some o ≡ true)

@@ -4,6 +4,7 @@
 use Rattle.std.specs.Prelude.{ℕ, ◌+◌, ◌*◌, ◌-◌, Bool, true, false, not, ◌&&◌, ◌||◌, ◌==◌, nat_le, List, [], ◌∷◌, length, Option, Some, None, is_some, if◌then◌else◌}
 use Rattle.std.specs.List.{slice_split, filter, fold, list_all}
 use Rattle.std.specs.Option.{option_map}
+use Rattle.std.specs.Char.{is_ascii_digit, is_ascii_lowercase}
 use Rattle.cost_vector.specs.declared.cost_spec.Term.{Term}
 use Rattle.cost_vector.specs.declared.cost_spec.Level.{Level}
 
@@ -19,16 +20,8 @@ is_empty (b ∷ bs) = false
 abbrev pub words : List ℕ → List (List ℕ)
 words text = filter (λ word. not (is_empty word)) (parts 32 text)
 
--- from a to z
-abbrev pub is_letter : ℕ → Bool
-is_letter b = nat_le 97 b && nat_le b 122
-
--- from 0 to 9
-abbrev pub is_digit : ℕ → Bool
-is_digit b = nat_le 48 b && nat_le b 57
-
 abbrev pub is_name_byte : ℕ → Bool
-is_name_byte b = is_letter b || is_digit b || b == 45
+is_name_byte b = is_ascii_lowercase b || is_ascii_digit b || b == 45
 
 -- the word "max"
 abbrev pub is_max : List ℕ → Bool
@@ -38,14 +31,14 @@ is_max _ = false
 -- A name is a letter, then letters, digits and `-`. It is not the word `max`.
 abbrev pub is_name : List ℕ → Bool
 is_name [] = false
-is_name (b ∷ bs) = is_letter b && list_all is_name_byte bs && not (is_max (b ∷ bs))
+is_name (b ∷ bs) = is_ascii_lowercase b && list_all is_name_byte bs && not (is_max (b ∷ bs))
 
 abbrev pub decimal_value : List ℕ → ℕ
 decimal_value digits = fold (λ value b. value * 10 + (b - 48)) 0 digits
 
 -- at most 7 digits, and at most 1,000,000
 abbrev pub is_small : List ℕ → Bool
-is_small digits = list_all is_digit digits && nat_le (length digits) 7 && nat_le (decimal_value digits) 1000000
+is_small digits = list_all is_ascii_digit digits && nat_le (length digits) 7 && nat_le (decimal_value digits) 1000000
 
 -- A number is 1 to 7 digits, at most 1,000,000; zeros may lead.
 abbrev pub is_number : List ℕ → Bool

@@ -5,7 +5,7 @@ ghost use Rattle.cost_vector.specs.Grammar.{spec_of, is_name, is_name_byte, is_n
 ghost use Rattle.cost_vector.specs.SpecEnds.{IsSpecEnd};
 ghost use Rattle.cost_vector.specs.declared.cost_spec.SpecEnd as SpecEnd;
 
-use crate::reader::{Reader, Stop, is_digit, is_letter, is_max, is_name_byte, number_at};
+use crate::reader::{Reader, Stop, is_max, is_name_byte, number_at};
 use resolver_model::NoMemory;
 use std::alloc::Global;
 use std::marker::Model;
@@ -258,7 +258,9 @@ pub fn is_cost_name(word: &[u8]) -> bool
     ensures { result ≡ is_name word.now }
 {
     match word {
-        [first, others @ ..] => is_letter(*first) && are_name_bytes(others) && !is_max(word),
+        [first, others @ ..] => first.is_ascii_lowercase()
+            && are_name_bytes(others)
+            && !is_max(word),
         [] => false,
     }
 }
@@ -275,7 +277,7 @@ pub fn small_number(word: &[u8]) -> Option<u64>
     ensures { result ≡ (if is_number word.now then Some (decimal_value word.now) else None) }
 {
     match word {
-        [first, ..] if is_digit(*first) => {
+        [first, ..] if first.is_ascii_digit() => {
             let (count, value) = number_at(word);
             if count == word.len() {
                 Some(value)
@@ -284,60 +286,5 @@ pub fn small_number(word: &[u8]) -> Option<u64>
             }
         }
         _ => None,
-    }
-}
-
-#[cfg(test)]
-mod tests {
-    use super::*;
-    use std::test::Fail;
-
-    // The first term of the first level of a spec counts 7 times, and has a name of one byte.
-    fn has_seven(spec: &CostSpec) -> bool {
-        match spec.levels() {
-            [first, ..] => match first.terms.as_slice() {
-                [term, ..] => first.greatest
-                    && term.times == 7
-                    && term.name.as_slice() == b"a".as_slice(),
-                [] => false,
-            },
-            [] => false,
-        }
-    }
-
-    #[test]
-    fn specs_are_read(rt: HostRuntime) -> Result<(), Fail> {
-        let spec = CostSpec::read(rt.alloc(), b" max ( 007 * a+b-2 ) , maxi ")?;
-        assert!(rt; has_seven(&spec));
-        Ok(())
-    }
-
-    // Whether a name and terms are read as they were given.
-    fn terms_are_kept(alloc: Global) -> Result<bool, NoMemory> {
-        let mut name = CostName::new(alloc);
-        name.push(b'a')?;
-        if name.len() != 1 || *name.at(0) != b'a' {
-            return Ok(false);
-        }
-        let mut terms = Terms::new(alloc);
-        terms.push(Term { times: 3, name })?;
-        Ok(terms.len() == 1 && terms.at(0).times == 3)
-    }
-
-    #[test]
-    fn words_are_judged(rt: HostRuntime) -> Result<(), Fail> {
-        assert!(rt; is_cost_name(b"risk"));
-        assert!(rt; small_number(b"1000000") == Some(1_000_000));
-        assert!(rt; terms_are_kept(rt.alloc())?);
-        Ok(())
-    }
-
-    #[test]
-    fn faults_have_their_places(rt: HostRuntime) {
-        let at = match CostSpec::read(rt.alloc(), b"max(a) , b,,") {
-            Err(SpecEnd::SpecFault { at }) => at,
-            _ => 0,
-        };
-        assert!(rt; at == 11);
     }
 }

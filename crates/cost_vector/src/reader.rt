@@ -3,7 +3,8 @@
 ghost use Rattle.std.specs.Prelude.{◌≡◌, ◌<◌, ℕ, List, [], ◌∷◌, length, take, drop, Some, None, MatchResult, IsTrue, slice_index, true, false, is_ok, ◌++◌, ◌+◌, ◌≤◌, if◌then◌else◌};
 ghost use Rattle.std.specs.Bool.{OnTrue, OnFalse};
 ghost use Rattle.std.specs.Option.{option_map};
-ghost use Rattle.cost_vector.specs.Grammar.{is_letter, is_digit, is_name_byte, is_max, is_name, is_small, is_number, decimal_value, name_of, term, term_of, sum_of, closed_of, level, level_of, spec_of};
+ghost use Rattle.std.specs.Char.{is_ascii_digit, is_ascii_lowercase};
+ghost use Rattle.cost_vector.specs.Grammar.{is_name_byte, is_max, is_name, is_small, is_number, decimal_value, name_of, term, term_of, sum_of, closed_of, level, level_of, spec_of};
 ghost use Rattle.cost_vector.specs.Reading.{Reads, ReadsOr, OrFault, IsRun, IsNumberRun, LeadsTo, IsPartway, begins, is_byte, begins_with_max};
 
 use crate::cost_spec::{CostName, Level, Levels, Term, Terms};
@@ -28,25 +29,11 @@ impl From<NoMemory> for Stop {
     }
 }
 
-// From a to z.
-pub fn is_letter(byte: u8) -> bool
-    ensures { result ≡ is_letter byte }
-{
-    byte.is_ascii_lowercase()
-}
-
-// From 0 to 9.
-pub fn is_digit(byte: u8) -> bool
-    ensures { result ≡ is_digit byte }
-{
-    byte.is_ascii_digit()
-}
-
 // A letter, a digit or `-`.
 pub fn is_name_byte(byte: u8) -> bool
     ensures { result ≡ is_name_byte byte }
 {
-    is_letter(byte) || is_digit(byte) || byte == b'-'
+    byte.is_ascii_lowercase() || byte.is_ascii_digit() || byte == b'-'
 }
 
 // The word that is no name.
@@ -102,20 +89,20 @@ pub struct Reader<'a> {
 impl<'a> Reader<'a> {
     // Whether a letter is next.
     fn at_letter(&self) -> bool
-        ensures { result ≡ begins is_letter self.now.rest.now }
+        ensures { result ≡ begins is_ascii_lowercase self.now.rest.now }
     {
         match self.rest {
-            [byte, ..] => is_letter(*byte),
+            [byte, ..] => byte.is_ascii_lowercase(),
             [] => false,
         }
     }
 
     // Whether a digit is next.
     fn at_digit(&self) -> bool
-        ensures { result ≡ begins is_digit self.now.rest.now }
+        ensures { result ≡ begins is_ascii_digit self.now.rest.now }
     {
         match self.rest {
-            [byte, ..] => is_digit(*byte),
+            [byte, ..] => byte.is_ascii_digit(),
             [] => false,
         }
     }
@@ -165,7 +152,7 @@ impl<'a> Reader<'a> {
 
     // Passes the longest number that is next. It gives the digits and their value.
     fn number(&mut self) -> (&'a [u8], u64)
-        requires { IsTrue (begins is_digit self.old.rest.now) }
+        requires { IsTrue (begins is_ascii_digit self.old.rest.now) }
         ensures run { IsNumberRun self.old.rest.now result.0.now self.new.rest.now }
         ensures value { result.1 ≡ decimal_value result.0.now }
     {
@@ -177,7 +164,7 @@ impl<'a> Reader<'a> {
 
     // Reads a number and the star behind it.
     fn times(&mut self) -> Result<u64, Stop>
-        requires { IsTrue (begins is_digit self.old.rest.now) }
+        requires { IsTrue (begins is_ascii_digit self.old.rest.now) }
         ensures { MatchResult result (λ times. LeadsTo term_of name_of (term times) self.old.rest.now self.new.rest.now)
             (λ stop. OrFault stop (Reads term_of self.old.rest.now self.new.rest.now None)) }
     {
@@ -304,7 +291,7 @@ impl<'a> Reader<'a> {
 
 // The length of the longest number at the front, and its value.
 pub fn number_at(text: &[u8]) -> (usize, u64)
-    requires { IsTrue (begins is_digit text.now) }
+    requires { IsTrue (begins is_ascii_digit text.now) }
     ensures within { result.0 ≤ length text.now }
     ensures number { is_number (take result.0 text.now) ≡ true }
     ensures ends { result.0 < length text.now → is_number (take (result.0 + 1) text.now) ≡ false }
@@ -315,7 +302,7 @@ pub fn number_at(text: &[u8]) -> (usize, u64)
         if place == 7 {
             return (place, value);
         }
-        if !is_digit(*byte) {
+        if !byte.is_ascii_digit() {
             return (place, value);
         }
         let more = value * 10 + (*byte - b'0') as u64;

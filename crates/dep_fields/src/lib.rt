@@ -83,5 +83,3 @@ pub fn grammar()
     ensures fields { ReadsFields }
 {}
 
-#[cfg(test)]
-mod tests;

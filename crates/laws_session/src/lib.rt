@@ -133,32 +133,3 @@ pub fn climbs_learn_upwards()
     ensures { (s : Setting) (history : History) (actor leaf d : ℕ) (lines : List Line) → IsLegal s history → leaf < length (births_at s.problem history)
         → IsClimb s history leaf (Dep d) lines → IsCarriedNext s history leaf (Dep d) lines → LearnsUpwards s history (Put actor leaf (Dep d) lines) }
 {}
-
-#[cfg(test)]
-mod tests {
-    use super::*;
-    use std::test::Fail;
-
-    #[test]
-    fn laws_are_called(rt: HostRuntime) -> Result<(), Fail> {
-        histories_grow();
-        rules_name_choices();
-        lines_stay_sound();
-        leaves_cover();
-        leaves_are_unsplit_births();
-        hands_are_apart();
-        leaves_are_true();
-        puts_are_few();
-        answers_are_free_of_schedule();
-        answers_are_determined();
-        dead_ends_are_learned();
-        minimal_solutions_come_in_turn();
-        hands_stay();
-        cursors_stay_low();
-        lines_fit_the_table();
-        splits_were_open();
-        climbs_learn_upwards();
-        assert!(rt; true);
-        Ok(())
-    }
-}

@@ -35,19 +35,3 @@ pub fn tokens_name_choices()
         → choice_of (universe texts) p (token (universe texts) p c) ≡ Ok c }
     ensures choices { (u : Universe) (p : Problem) → IsProblemOf u p → (text : List ℕ) (c : ℕ) → choice_of u p text ≡ Ok c → IsTrue (is_choice p c) }
 {}
-
-#[cfg(test)]
-mod tests {
-    use super::*;
-    use std::test::Fail;
-
-    #[test]
-    fn laws_are_called(rt: HostRuntime) -> Result<(), Fail> {
-        candidates_are_versions();
-        installed_are_versions();
-        groups_are_few();
-        tokens_name_choices();
-        assert!(rt; true);
-        Ok(())
-    }
-}

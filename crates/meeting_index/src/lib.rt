@@ -7,8 +7,5 @@ mod index;
 mod named;
 mod naming;
 mod provided;
-mod rising;
-#[cfg(test)]
-mod tests;
 
 pub use index::MeetingIndex;

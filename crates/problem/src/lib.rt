@@ -22,8 +22,6 @@ mod dep_lists;
 mod index;
 mod limits;
 mod tables;
-#[cfg(test)]
-mod tests;
 
 use choice_set::ChoiceSet;
 pub use choice_set::NoMemory;

@@ -15,8 +15,6 @@ ghost use Rattle.requirement_list.specs.RequirementLists.{IsRequirementList, req
 mod collected;
 mod conflicts;
 mod groups;
-#[cfg(test)]
-mod tests;
 mod versions;
 
 use collected::Collected;

@@ -6,8 +6,6 @@ ghost use Rattle.sample_maker.specs.Draws.{state};
 ghost use Rattle.sample_maker.specs.Samples.{installed_stanza, archive_stanza, installed_draws, status_text, archive_text, packages_text};
 
 mod generator;
-#[cfg(test)]
-mod tests;
 mod text;
 
 use choice_set::NoMemory;

@@ -135,5 +135,3 @@ impl<'a> Stanza<'a> {
     }
 }
 
-#[cfg(test)]
-mod tests;

@@ -20,8 +20,6 @@ use std::alloc::Global;
 use universe_model::{BuildEnd, FileKind, InputKind};
 use universe_parts::{ReadStanza, is_counted};
 
-#[cfg(test)]
-mod tests;
 
 // The end of a build by a stanza's fault.
 fn stanza_end(file: FileKind, fault: StanzaFault) -> BuildEnd

@@ -10,8 +10,6 @@ ghost use Rattle.universe_model.specs.Universes.{problem_of, package_named, name
 mod building;
 mod finding;
 mod known;
-#[cfg(test)]
-mod tests;
 mod tokens;
 
 pub use choice_set::NoMemory;

@@ -121,26 +121,3 @@ pub enum TokenFault {
     /// It names a start version, or a group of Recommends that is not there or gave no dependency.
     NotAChoice,
 }
-
-#[cfg(test)]
-mod tests {
-    use super::*;
-    use std::test::Fail;
-
-    #[test]
-    fn ends_of_a_problem_end_a_build(rt: HostRuntime) -> Result<(), Fail> {
-        let past = ProblemEnd::Limit {
-            which: Which::Versions,
-            count: 1_000_001,
-        };
-        assert_eq!(rt;
-            BuildEnd::from(past),
-            BuildEnd::Limit {
-                which: Which::Versions,
-                count: 1_000_001
-            }
-        );
-        assert_eq!(rt; BuildEnd::from(ProblemEnd::NoMemory), BuildEnd::NoMemory);
-        Ok(())
-    }
-}

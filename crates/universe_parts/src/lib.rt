@@ -5,8 +5,6 @@
 mod listed;
 mod meeting;
 mod names;
-#[cfg(test)]
-mod tests;
 
 pub use listed::{ListedVersion, ReadStanza};
 pub use meeting::{is_counted, is_plain, is_provided_by, is_provided_within, is_within};

@@ -14,8 +14,6 @@ mod given;
 mod packages;
 mod releases;
 mod rows;
-#[cfg(test)]
-mod tests;
 
 use filing::read_rows;
 use packages::{limit, list_packages};

@@ -9,8 +9,6 @@ ghost use Rattle.wanted.specs.declared.WantedEnd.TheVariants as wanted_end;
 
 mod flags;
 mod starts;
-#[cfg(test)]
-mod tests;
 mod words;
 
 use choice_set::NoMemory;

@@ -1,0 +1,14 @@
+use laws_universe::{
+    candidates_are_versions, groups_are_few, installed_are_versions, tokens_name_choices,
+};
+use std::test::Fail;
+
+#[test]
+fn laws_are_called(rt: HostRuntime) -> Result<(), Fail> {
+    candidates_are_versions();
+    installed_are_versions();
+    groups_are_few();
+    tokens_name_choices();
+    assert!(rt; true);
+    Ok(())
+}

@@ -1,0 +1,48 @@
+// Tests.
+
+use control_file::Paragraphs;
+use dep_fields::Groups;
+use meeting_index::MeetingIndex;
+use stanza::Stanza;
+use std::test::Fail;
+use universe_parts::{ListedVersion, ReadStanza};
+
+#[test]
+fn met_by_a_provided_name(rt: HostRuntime) -> Result<(), Fail> {
+    let alloc = rt.alloc();
+    let mut paragraphs = Paragraphs::new(b"Package: p\nVersion: 1\nProvides: v (= 3)\n");
+    let Ok(Some(paragraph)) = paragraphs.next() else {
+        return Err(Fail::new("no paragraph"));
+    };
+    let Ok(stanza) = Stanza::of_package(&paragraph) else {
+        return Err(Fail::new("no stanza"));
+    };
+    let read = ReadStanza {
+        paragraph: paragraph.text(),
+        stanza,
+    };
+    let versions = [
+        ListedVersion {
+            package: 0,
+            name: b"p",
+            read: None,
+        },
+        ListedVersion {
+            package: 0,
+            name: b"p",
+            read: Some(&read),
+        },
+    ];
+    let index = MeetingIndex::new(alloc, b"amd64", &versions)?;
+    let Ok(Some(group)) = Groups::new(b"w | v (>> 2)", true).next() else {
+        return Err(Fail::new("no group"));
+    };
+    let mut met = Vec::new(alloc);
+    index.targets(&group, &mut met)?;
+    assert_eq!(rt; met.as_slice(), [1u32].as_slice());
+    for item in group.items() {
+        index.met_by(&item, &mut met)?;
+    }
+    assert_eq!(rt; met.as_slice(), [1u32].as_slice());
+    Ok(())
+}

@@ -1,0 +1,15 @@
+//! Tests.
+
+use problem::Builder;
+use requirement_list::list_requirements;
+use std::test::Fail;
+
+#[test]
+fn no_dependencies_of_nothing(rt: HostRuntime) -> Result<(), Fail> {
+    let alloc = rt.alloc();
+    let Ok(list) = list_requirements(alloc, b"amd64", &[], Builder::new(alloc)) else {
+        return Err(Fail::new("no list"));
+    };
+    assert_eq!(rt; list.problem.deps(), 0);
+    Ok(())
+}

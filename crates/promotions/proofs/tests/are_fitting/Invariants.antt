@@ -1,6 +1,0 @@
-use Rattle.std.proofs.Common.{IsTrue, take}
-use Rattle.promotions.specs.Deriving.{fit_table}
-use Rattle.promotions.proofs.tests.are_fitting.Given as goal
-
-abbrev pub invariant-loop-line : goal.invariant-loop-line
-invariant-loop-line l = IsTrue (fit_table l.table (take l.line-index l.lines))

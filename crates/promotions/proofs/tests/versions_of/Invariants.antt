@@ -1,6 +1,0 @@
-use Rattle.std.proofs.Common.{IsTrue, nat_lt}
-use Rattle.std.specs.List.{list_all}
-use Rattle.promotions.proofs.tests.versions_of.Given as goal
-
-abbrev pub invariant-loop-item : goal.invariant-loop-item
-invariant-loop-item l = IsTrue (list_all (λ v. nat_lt v l.count) l.set)
