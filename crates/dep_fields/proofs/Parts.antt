@@ -21,6 +21,7 @@ use Rattle.dep_fields.specs.Fields.{Span, pieces, parts_left, comma, bar, is_nil
 use Rattle.dep_fields.specs.Cuts.{IsCut, IsFirstSpan}
 use Rattle.ascii.proofs.Texts.{behind-skip}
 use Rattle.dep_fields.proofs.Runs.{blank-separator, behind_group-append}
+use Rattle.lists.proofs.Options.{option_or-none}
 
 -- the first part ends at the first mark
 pub pieces-first : (mark : ℕ) (text : List ℕ) (i : ℕ) → position_or_len (λ (b : ℕ). b == mark) text ≡ i → i < length text
@@ -180,15 +181,11 @@ part-reads : (alternatives : Bool) (at : ℕ) (part : List ℕ) (last : Bool) (r
 part-reads alternatives at part last (Ok item) h = refl
 part-reads alternatives at part last (Err kind) h = cc
 
-no-first : {A : Type 0} (first later : Option A) → option_or first later ≡ None → (first ≡ None) × (later ≡ None)
-no-first None later h = (refl, h)
-no-first (Some fault) later h = cc
-
 -- each part of a group without a fault is read
 pub no-fault-reads : (alternatives : Bool) (at : ℕ) (parts : List (List ℕ)) → first_fault alternatives at parts ≡ None → list_all reads parts ≡ true
 no-fault-reads alternatives at [] h = refl
 no-fault-reads alternatives at (part ∷ parts) h =
-    let both = no-first (part_fault alternatives at part (is_nil parts) (relationship_of part)) (first_fault alternatives (at + length part + 1) parts) h in
+    let both = option_or-none (part_fault alternatives at part (is_nil parts) (relationship_of part)) (first_fault alternatives (at + length part + 1) parts) h in
     and_from (reads part) (list_all reads parts) (part-reads alternatives at part (is_nil parts) (relationship_of part) both.0)
     (no-fault-reads alternatives (at + length part + 1) parts both.1)
 

@@ -13,16 +13,13 @@ use Rattle.dep_fields.specs.Tokens.{is_blank, is_name_byte, is_arch_byte, is_in_
 use Rattle.dep_fields.specs.Relationships.{Relationship, VersionBound, ◌>>=◌, bound_at, some_bound, rel_at, relationship_at}
 use Rattle.dep_fields.specs.Grammar.{are_blanks, IsOp, arch_text, IsArch, IsItem}
 use Rattle.lists.proofs.Tests.{list_all-prefix}
+use Rattle.lists.proofs.Options.{option_map-some}
 
 -- ---- options
 
 pub bind-some : {A B : Type 0} (o : Option A) (f : A → Option B) (y : B) → (o >>= f) ≡ Some y → (x : A) × (o ≡ Some x) × (f x ≡ Some y)
 bind-some None f y h = cc
 bind-some (Some x) f y h = (x, refl, h)
-
-map-some : {A B : Type 0} (f : A → B) (o : Option A) (y : B) → option_map f o ≡ Some y → (x : A) × (o ≡ Some x) × (f x ≡ y)
-map-some f None y h = cc
-map-some f (Some x) y h = (x, refl, cc)
 
 some-same : {A : Type 0} (x y : A) → Some x ≡ Some y → x ≡ y
 some-same x y h = cc
@@ -77,7 +74,7 @@ arch-taken (byte ∷ text) read h = by (byte == 58) refl h
   where
     by : (b : Bool) → (byte == 58) ≡ b → cond b (option_map some_token (run_at is_arch_byte (begins is_arch_byte) text)) (Some (None, byte ∷ text)) ≡ Some read → TakesArch (byte ∷ text) read
     by true e h =
-        let m = map-some some_token (run_at is_arch_byte (begins is_arch_byte) text) read h in
+        let m = option_map-some some_token (run_at is_arch_byte (begins is_arch_byte) text) read h in
         let run = run-taken is_arch_byte (begins is_arch_byte) text m.0 m.1 in
         let whole : byte ∷ text ≡ 58 ∷ (m.0.0 ++ m.0.1) = ap (λ (b : ℕ). b ∷ text) (eqb-true byte 58 e) ∙ ap (λ (t : List ℕ). 58 ∷ t) run.whole in
         subst (λ (r : Option (List ℕ) × List ℕ). TakesArch (byte ∷ text) r) m.2 (whole, and_from _ _ run.token run.passes)
@@ -188,7 +185,7 @@ rel-taken (byte ∷ text) read h = by (byte == 40) refl h
   where
     by : (b : Bool) → (byte == 40) ≡ b → cond b (option_map some_bound (bound_at text)) (Some (None, byte ∷ text)) ≡ Some read → TakesRel (byte ∷ text) read.0 read.1
     by true e h =
-        let m = map-some some_bound (bound_at text) read h in
+        let m = option_map-some some_bound (bound_at text) read h in
         let P : Option VersionBound × List ℕ → Type 0 = λ r. TakesRel (byte ∷ text) r.0 r.1 in
         subst P m.2 (text, ap (λ (b : ℕ). b ∷ text) (eqb-true byte 40 e), bound-taken text m.0 m.1)
     by false e h = let P : Option VersionBound × List ℕ → Type 0 = λ r. TakesRel (byte ∷ text) r.0 r.1 in subst P (some-same (None, byte ∷ text) read h) refl

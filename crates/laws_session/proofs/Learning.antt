@@ -7,7 +7,7 @@ use Rattle.lists.proofs.Members.{Member}
 use Rattle.lists.proofs.Sets.{is_subset-refl, is_subset-trans}
 use Rattle.lists.specs.Sets.{with, is_subset}
 use Rattle.resolver_model.specs.declared.lines.Bound.{Bound}
-use Rattle.resolver_model.specs.declared.lines.Bound.TheVariants.{Cost, Given, Impossible}
+use Rattle.resolver_model.specs.declared.lines.Bound.TheVariants.{Cost, Impossible}
 use Rattle.resolver_model.specs.declared.lines.Line.{Line}
 use Rattle.resolver_model.specs.declared.history.By.TheVariants.{Dep}
 use Rattle.resolver_model.specs.Problems.{Problem, resolvers}
@@ -18,24 +18,8 @@ use Rattle.resolver_model.specs.Trees.{Tree}
 use Rattle.resolver_model.specs.Births.{births_at, taken_at, parent_of, above, split_at}
 use Rattle.resolver_model.specs.Learning.{IsCarried, LearnsFrom}
 use Rattle.resolver_model.specs.Answers.{Setting}
-use Rattle.resolver_model.proofs.Soundness.{is_le-trans}
+use Rattle.resolver_model.proofs.Soundness.{is_at_most-trans}
 use Rattle.laws_session.specs.Laws.{AreBirths, IsStrong}
-
--- the order of bounds
-pub is_at_most-trans : (a b c : Bound) → is_at_most a b ≡ true → is_at_most b c ≡ true → is_at_most a c ≡ true
-is_at_most-trans (Cost u) (Cost v) (Cost w) h k = is_le-trans u v w h k
-is_at_most-trans (Cost u) b Given h k = refl
-is_at_most-trans (Cost u) b Impossible h k = refl
-is_at_most-trans (Cost u) Given (Cost w) h k = absurd (cc)
-is_at_most-trans (Cost u) Impossible (Cost w) h k = absurd (cc)
-is_at_most-trans Given (Cost v) c h k = absurd (cc)
-is_at_most-trans Given Given c h k = k
-is_at_most-trans Given Impossible (Cost w) h k = absurd (cc)
-is_at_most-trans Given Impossible Given h k = refl
-is_at_most-trans Given Impossible Impossible h k = refl
-is_at_most-trans Impossible (Cost v) c h k = absurd (cc)
-is_at_most-trans Impossible Given c h k = absurd (cc)
-is_at_most-trans Impossible Impossible c h k = k
 
 -- lines whose sets are within T bound T as they bound any set
 bounded_within : (lines : List Line) (set taken : List ℕ) (bound : Bound) → ((l : Line) → Member l lines → is_subset l.set taken ≡ true) → is_bounded_by lines set bound ≡ true → is_bounded_by lines taken bound ≡ true

@@ -1,11 +1,11 @@
 -- The rules of a legal history mark choices of the problem alone, none of them both ways, and cap levels of its costs alone.
-use Rattle.std.proofs.Common.{◌≡◌, ◌<◌, ◌+◌, ℕ, List, [], ◌∷◌, Bool, true, false, cond, not, Some, None, Option, refl, sym, subst, ◌∙◌, nat_lt, nat_eq, length, eq-eqb, lt-ltb}
+use Rattle.std.proofs.Common.{◌≡◌, ◌<◌, ◌+◌, ℕ, List, [], ◌∷◌, Bool, true, false, cond, not, Some, None, Option, refl, sym, subst, nat_lt, nat_eq, length, lt-ltb}
 use Rattle.std.specs.List.{list_all}
-use Rattle.std.proofs.lemmas.Bool.{and_from, and_parts, not-true, not_from_false, false_from_ne_true}
-use Rattle.lists.proofs.Sets.{is_rising-filter, has-filter_parts}
+use Rattle.std.proofs.lemmas.Bool.{and_from, and_parts, not_from_false}
+use Rattle.lists.proofs.Sets.{is_rising-filter}
 use Rattle.lists.proofs.Tests.{list_all-filter}
-use Rattle.lists.proofs.With.{list_all-with, is_disjoint-with}
-use Rattle.lists.specs.Sets.{is_rising, has, without, is_disjoint}
+use Rattle.lists.proofs.With.{list_all-with, is_disjoint-with, has-without_own, is_disjoint-without_first, is_disjoint-without_second}
+use Rattle.lists.specs.Sets.{is_rising, has, without}
 use Rattle.resolver_model.specs.declared.history.Command.{Command}
 use Rattle.resolver_model.specs.declared.history.Command.TheVariants as command
 use Rattle.resolver_model.specs.declared.history.Reply.{Reply}
@@ -29,37 +29,23 @@ choice_set-without p set c h =
     let parts = and_parts (is_rising set) (list_all (is_choice p) set) h in
     and_from (is_rising (without set c)) _ (is_rising-filter (λ x. not (nat_eq x c)) set parts.0) (list_all-filter (is_choice p) (λ x. not (nat_eq x c)) set parts.1)
 
--- what is without c has it not
-without_own : (set : List ℕ) (c : ℕ) → has (without set c) c ≡ false
-without_own set c = false_from_ne_true _ (λ h. let parts = has-filter_parts (λ x. not (nat_eq x c)) set c h in let f : true ≡ false = sym (eq-eqb c c refl) ∙ not-true _ parts.0 in cc)
-
-disjoint-left : (xs ys : List ℕ) (c : ℕ) → is_disjoint xs ys ≡ true → is_disjoint (without xs c) ys ≡ true
-disjoint-left xs ys c h = list_all-filter (λ x. not (has ys x)) (λ x. not (nat_eq x c)) xs h
-
-disjoint-right : (xs ys : List ℕ) (c : ℕ) → is_disjoint xs ys ≡ true → is_disjoint xs (without ys c) ≡ true
-disjoint-right [] ys c h = refl
-disjoint-right (x ∷ xs) ys c h =
-    let parts = and_parts (not (has ys x)) (is_disjoint xs ys) h in
-    let gone : has (without ys c) x ≡ false = false_from_ne_true _ (λ m. let there = (has-filter_parts (λ y. not (nat_eq y c)) ys x m).1 in let f : true ≡ false = sym there ∙ not-true _ parts.0 in cc) in
-    and_from (not (has (without ys c) x)) _ (not_from_false _ gone) (disjoint-right xs ys c parts.1)
-
 mark_step : (s : Setting) (rules : Rules) (c : ℕ) (mark : Mark) → is_choice s.problem c ≡ true → AreRulesFor s rules → AreRulesFor s (set_mark rules c mark)
 mark_step s rules c Free is r = record {
   approved = choice_set-without s.problem rules.approved c r.approved;
   rejected = choice_set-without s.problem rules.rejected c r.rejected;
-  apart = disjoint-left rules.approved (without rules.rejected c) c (disjoint-right rules.approved rules.rejected c r.apart);
+  apart = is_disjoint-without_first rules.approved (without rules.rejected c) c (is_disjoint-without_second rules.approved rules.rejected c r.apart);
   caps = r.caps;
 }
 mark_step s rules c Approved is r = record {
   approved = is_choice_set-with s.problem rules.approved c r.approved is;
   rejected = choice_set-without s.problem rules.rejected c r.rejected;
-  apart = list_all-with (λ x. not (has (without rules.rejected c) x)) rules.approved c (disjoint-right rules.approved rules.rejected c r.apart) (not_from_false _ (without_own rules.rejected c));
+  apart = list_all-with (λ x. not (has (without rules.rejected c) x)) rules.approved c (is_disjoint-without_second rules.approved rules.rejected c r.apart) (not_from_false _ (has-without_own rules.rejected c));
   caps = r.caps;
 }
 mark_step s rules c Rejected is r = record {
   approved = choice_set-without s.problem rules.approved c r.approved;
   rejected = is_choice_set-with s.problem rules.rejected c r.rejected is;
-  apart = is_disjoint-with (without rules.approved c) rules.rejected c (disjoint-left rules.approved rules.rejected c r.apart) (without_own rules.approved c);
+  apart = is_disjoint-with (without rules.approved c) rules.rejected c (is_disjoint-without_first rules.approved rules.rejected c r.apart) (has-without_own rules.approved c);
   caps = r.caps;
 }
 
@@ -109,4 +95,4 @@ AreRulesFor-legal s is history legal =
 
 -- A freed choice has no mark.
 pub freed_both : (rules : Rules) (c : ℕ) → (has (set_mark rules c Free).rejected c ≡ false) × (has (set_mark rules c Free).approved c ≡ false)
-freed_both rules c = (without_own rules.rejected c, without_own rules.approved c)
+freed_both rules c = (has-without_own rules.rejected c, has-without_own rules.approved c)

@@ -1,11 +1,9 @@
 -- Every line of a legal history is sound for its deliveries.
 use Rattle.std.proofs.Common.{inl, inr, ◌≡◌, ℕ, List, [], ◌∷◌, ◌++◌, true, false, refl, ap, sym, subst, ◌∙◌, append_assoc, append-nil}
-use Rattle.std.proofs.lemmas.Bool.{or_cases, or_left, or_right}
+use Rattle.std.proofs.lemmas.Bool.{or_left, or_right}
 use Rattle.std.proofs.lemmas.List.Folds.{list_any-append}
 use Rattle.lists.proofs.Members.{Member, Member-append_cases}
 use Rattle.lists.specs.Sets.{is_subset}
-use Rattle.resolver_model.specs.declared.lines.Bound.{Bound}
-use Rattle.resolver_model.specs.declared.lines.Bound.TheVariants.{Cost, Given, Impossible}
 use Rattle.resolver_model.specs.declared.lines.Line.{Line}
 use Rattle.resolver_model.specs.declared.history.Command.{Command}
 use Rattle.resolver_model.specs.declared.history.Reply.{Reply}
@@ -14,31 +12,14 @@ use Rattle.resolver_model.specs.declared.history.Entry.{Entry}
 use Rattle.resolver_model.specs.declared.history.Entry.TheVariants.{Say, Take, Put, Back}
 use Rattle.resolver_model.specs.Problems.{Problem}
 use Rattle.resolver_model.specs.Costs.{Table}
-use Rattle.resolver_model.specs.Lines.{has_delivery, reaches, agrees_with, IsSound}
+use Rattle.resolver_model.specs.Lines.{has_delivery, IsSound}
 use Rattle.resolver_model.specs.Histories.{History, given_at, given_line, lines_at, lines_of}
 use Rattle.resolver_model.specs.Answers.{Setting}
 use Rattle.resolver_model.specs.Legal.{AreDerived, Follows, IsLegal}
-use Rattle.resolver_model.proofs.Soundness.{IsSound-derived}
+use Rattle.resolver_model.proofs.Soundness.{IsSound-derived, IsSound-more}
 use Rattle.laws_session.specs.Laws.{AreLinesSound}
 use Rattle.laws_session.proofs.Longer.{legal_induction}
 use Rattle.laws_session.proofs.Effects.{given_at-more, lines_at-more}
-
-pub has_delivery-append : (given more : List (List ℕ)) (set : List ℕ) → has_delivery given set ≡ true → has_delivery (given ++ more) set ≡ true
-has_delivery-append given more set h = list_any-append (λ delivery. is_subset delivery set) given more ∙ or_left (has_delivery given set) (has_delivery more set) h
-
--- more deliveries only add to what a bound allows
-pub agrees_with-more : (table : Table) (given more : List (List ℕ)) (bound : Bound) (set : List ℕ) → agrees_with table given bound set ≡ true → agrees_with table (given ++ more) bound set ≡ true
-agrees_with-more table given more (Cost v) set h =
-    elim (or_cases (has_delivery given set) (reaches table (Cost v) set) h) as (λ _. agrees_with table (given ++ more) (Cost v) set ≡ true) [
-      | inl has_one ↦ or_left (has_delivery (given ++ more) set) _ (has_delivery-append given more set has_one)
-      | inr dear ↦ or_right (has_delivery (given ++ more) set) _ dear
-    ]
-agrees_with-more table given more Given set h = has_delivery-append given more set h
-agrees_with-more table given more Impossible set h = absurd (cc)
-
--- A sound line stays sound as deliveries are added.
-pub IsSound-more : (p : Problem) (table : Table) (given more : List (List ℕ)) (line : Line) → IsSound p table given line → IsSound p table (given ++ more) line
-IsSound-more p table given more line sound set solution within = agrees_with-more table given more line.bound set (sound set solution within)
 
 -- The line of a delivery is sound.
 pub IsSound-given : (p : Problem) (table : Table) (given : List (List ℕ)) (set : List ℕ) → IsSound p table (given ++ set ∷ []) (given_line set)

@@ -15,6 +15,7 @@ use Rattle.universe_model.specs.declared.TokenFault.TheVariants.{NotAToken, NoSu
 use Rattle.laws_universe.proofs.Found.{package-found, version-found, absent-found, recommends-found}
 use Rattle.laws_universe.proofs.Sound.{IsSound, IsTextWell}
 use Rattle.laws_universe.proofs.Spelled.{removal-spelled, release-spelled, group-spelled}
+use Rattle.lists.proofs.Options.{option_map-some}
 
 -- ---- a text that names a choice
 
@@ -124,10 +125,6 @@ given : (o : Option ℕ) (c : ℕ) → found_or NotAChoice o Ok ≡ Ok c → o �
 given None c h = absurd (cc)
 given (Some d) c h = cc
 
-mapped : {A B : Type 0} (f : A → B) (o : Option A) (y : B) → option_map f o ≡ Some y → (x : A) × (o ≡ Some x) × (f x ≡ y)
-mapped f None y h = absurd (cc)
-mapped f (Some x) y h = (x, refl, cc)
-
 install-choice : (p : Problem) (v c : ℕ) → cond (is_install p v) (Some v) None ≡ Some c → is_choice p c ≡ true
 install-choice p v c h =
     let at = cond_some (is_install p v) v c h in
@@ -149,7 +146,7 @@ choice-named u starts v (Removal name) c h = install-choice (problem_from u star
 choice-named u starts v (Release name version) c h = install-choice (problem_from u starts) v c h
 choice-named u starts v (Group name version place) c h =
     let p : Problem = problem_from u starts in
-    let m = mapped (leave_of p) (position (is_recommends_of v place) u.requirements) c h in
+    let m = option_map-some (leave_of p) (position (is_recommends_of v place) u.requirements) c h in
     let at = position-Some (is_recommends_of v place) u.requirements m.0 no_requirement m.1 in
     let r : Requirement = requirement_numbered u m.0 in
     let soft = (and_parts r.dependency.soft (r.dependency.source == v) (and_parts (r.dependency.soft && (r.dependency.source == v)) (r.group == place) at.1).0).0 in

@@ -19,6 +19,7 @@ use Rattle.stanza.specs.declared.StanzaKind.{StanzaKind}
 use Rattle.stanza.specs.declared.StanzaKind.TheVariants.{NoPackage, BadPackage, NoVersion, BadVersion}
 use Rattle.universe_model.specs.Reading.{ReadStanza, Reader, Texts, beside, stanzas_in, is_counted, stanzas_of, all_of}
 use Rattle.universe_model.specs.Versions.{version_text}
+use Rattle.lists.proofs.Options.{option_or-none}
 
 -- ---- lengths
 
@@ -62,10 +63,6 @@ needed-passes line missing faulty test (Some field) h = by (test field.value) h
     by true h = refl
     by false h = absurd (cc)
 
-neither : {A : Type 0} (x y : Option A) → option_or x y ≡ None → (x ≡ None) × (y ≡ None)
-neither None y h = (refl, h)
-neither (Some x) y h = absurd (cc)
-
 unwrap-value : (value : Option (List ℕ)) → unwrap_or value [] ≡ value_or_nothing value
 unwrap-value None = refl
 unwrap-value (Some value) = refl
@@ -87,7 +84,7 @@ stanza-well n p status short named content = by status.present content
     by : (b : Bool) → (b ≡ true → content_fault p ≡ None) → IsReadWell n (beside p (stanza_with p (text_in p (codes "Package")) (record { hold = status.hold; present = b }) (cond b (content_in p) no_content)))
     by true content = record {
       name = needed-passes p.line NoPackage BadPackage is_name (field_in p (codes "Package")) named;
-      version = λ _. version-there p (neither (version_fault p) (relation_fault p) (content refl)).0;
+      version = λ _. version-there p (option_or-none (version_fault p) (relation_fault p) (content refl)).0;
       recommends = short (codes "Recommends");
     }
     by false content = record {
@@ -108,15 +105,15 @@ ReadsWell n read = (p : ParagraphText) (stanza : StanzaText) → IsShort n p →
 package_stanza-well : (n : ℕ) → ReadsWell n package_stanza
 package_stanza-well n p stanza short h =
     let m = made (option_or (package_fault p) (content_fault p)) (stanza_text p (record { hold = false; present = true })) stanza h in
-    let none = neither (package_fault p) (content_fault p) m.0 in
+    let none = option_or-none (package_fault p) (content_fault p) m.0 in
     subst (λ s. IsReadWell n (beside p s)) m.1 (stanza-well n p (record { hold = false; present = true }) short none.0 (λ _. none.1))
 
 status_stanza-well : (n : ℕ) → ReadsWell n status_stanza
 status_stanza-well n p stanza short h =
     let inner : Option StanzaFault = cond (status_in p).present (content_fault p) None in
     let m = made (option_or (package_fault p) (option_or (status_fault p) inner)) (stanza_text p (status_in p)) stanza h in
-    let none = neither (package_fault p) (option_or (status_fault p) inner) m.0 in
-    let content = (neither (status_fault p) inner none.1).1 in
+    let none = option_or-none (package_fault p) (option_or (status_fault p) inner) m.0 in
+    let content = (option_or-none (status_fault p) inner none.1).1 in
     subst (λ s. IsReadWell n (beside p s)) m.1
     (stanza-well n p (status_in p) short none.0 (λ e. sym (cond-true (status_in p).present (content_fault p) None e) ∙ content))
 

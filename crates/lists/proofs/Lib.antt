@@ -9,3 +9,4 @@ pub mod Below
 pub mod Sublists
 pub mod Distinct
 pub mod Sums
+pub mod Options

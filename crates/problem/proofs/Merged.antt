@@ -3,7 +3,7 @@ use Rattle.std.proofs.Common.{inl, inr, ◌==◌, ◌≡◌, ◌<◌, ◌≤◌,
 use Rattle.std.specs.List.{list_all, list_any, find}
 use Rattle.std.specs.Option.{unwrap_or}
 use Rattle.std.proofs.lemmas.List.Folds.{list_any-append, list_all-append}
-use Rattle.std.proofs.lemmas.Bool.{and_from, or_cases, eqb-true, eq-eqb, le-leb, ltb-true, lt-ltb, le-ltb, ltb-false}
+use Rattle.std.proofs.lemmas.Bool.{and_from, eqb-true, eq-eqb, le-leb, ltb-true, lt-ltb, le-ltb, ltb-false}
 use Rattle.std.proofs.lemmas.Bool.Decides.{nat_tests}
 use Rattle.std.proofs.Math.Bool.{and-false}
 use Rattle.lists.proofs.Below.{is_rising-below, list_all-below, has-below}
@@ -17,6 +17,7 @@ use Rattle.resolver_model.specs.Problems.{Problem, IsWellFormed, version_count, 
 use Rattle.problem.specs.Places.{absent_of, end_of}
 use Rattle.problem.specs.Resolving.{is_free_install, free_targets, free_versions, leave_choices}
 use Rattle.problem.proofs.Ranges.{package_from, place_from, absent-le-end, end_of-range}
+use Rattle.resolver_model.proofs.Soundness.{resolver_below}
 
 -- Rising lists with the same members are equal.
 
@@ -202,22 +203,12 @@ has_pieces p set d first end c =
     joined : (a b e f a' b' e' f' : Bool) → a ≡ a' → b ≡ b' → e ≡ e' → f ≡ f' → (((a || b) || e) || f) ≡ (((a' || b') || e') || f')
     joined a b e f a' b' e' f' ha hb he hf = cc
 
-resolver_less : (p : Problem) (set : List ℕ) (d c : ℕ) → d < dependency_count p → is_resolver p set d c ≡ true → c < version_count p + dependency_count p
-resolver_less p set d c lt h =
-    elim (or_cases (is_install_resolver p set d c) ((dependency p d).soft && nat_eq c (leave_of p d)) h) as (λ _. c < version_count p + dependency_count p) [
-      | inl install ↦
-          let free : is_free_install p set c ≡ true = and_first (is_free_install p set c) (has (dependency p d).targets c || is_other p d c) install in
-          let change : is_install p c ≡ true = and_first (is_install p c) (not (changes p set (package_of p c))) free in
-          omega (arith, ltb-true c (version_count p) (and_first (nat_lt c (version_count p)) (not (nat_eq (start_of p (package_of p c)) c)) change))
-      | inr leave ↦ omega (arith, eqb-true c (leave_of p d) (and_second (dependency p d).soft (nat_eq c (leave_of p d)) leave))
-    ]
-
 has_resolvers : (p : Problem) (set : List ℕ) (d c : ℕ) → d < dependency_count p → has (resolvers p set d) c ≡ is_resolver p set d c
 has_resolvers p set d c lt =
     let count = version_count p + dependency_count p in
     has-filter (is_resolver p set d) (below count) c ∙ ap (λ r. is_resolver p set d c && r) (has-below count c)
     ∙ elim (is_resolver p set d c) as (λ r. is_resolver p set d c ≡ r → (r && nat_lt c count) ≡ r) [
-      | true ↦ λ e. lt-ltb c count (resolver_less p set d c lt e)
+      | true ↦ λ e. lt-ltb c count (resolver_below p set d c lt e)
       | false ↦ λ _. refl
     ] refl
 

@@ -1,14 +1,10 @@
 -- The numbers of those that pass a test.
-use Rattle.std.proofs.Common.{◌≡◌, ◌<◌, ◌+◌, ℕ, zero, suc, List, [], ◌∷◌, Bool, true, false, map, refl, arith, nat_lt, nat_eq}
-use Rattle.std.specs.List.{filter, enumerate_from, list_all}
-use Rattle.std.proofs.lemmas.Bool.{and_from, lt-ltb}
+use Rattle.std.proofs.Common.{◌≡◌, ◌<◌, ◌+◌, ℕ, zero, suc, List, [], ◌∷◌, Bool, true, false, refl, arith, nat_eq}
 use Rattle.std.proofs.lemmas.Bool.Decides.{nat_tests}
 use Rattle.lists.specs.Sets.{is_rising, has}
-use Rattle.universe_model.specs.Lists.{number_in, numbers_of}
-
--- the numbers of those that pass, counted from n
-abbrev numbers_from : {A : Type 0} → ℕ → (A → Bool) → List A → List ℕ
-numbers_from {A} n test xs = map (number_in {A = A}) (filter (λ (numbered : ℕ × A). test numbered.1) (enumerate_from n xs))
+use Rattle.universe_model.specs.Lists.{numbers_of}
+use Rattle.meeting_index.specs.Numbers.{numbers_from}
+use Rattle.meeting_index.proofs.Numbers.{numbers_from-rising}
 
 -- whether the one with this number passes
 abbrev pub passes : {A : Type 0} → (A → Bool) → List A → ℕ → Bool
@@ -31,18 +27,6 @@ numbers_cases P n test x xs there not_there =
       | false ↦ λ e. rw (numbers_no n test x xs e) (not_there e)
     ] refl
 
-all_above : {A : Type 0} (m n : ℕ) (test : A → Bool) (xs : List A) → m < n → list_all (λ y. nat_lt m y) (numbers_from n test xs) ≡ true
-all_above m n test [] lt = refl
-all_above m n test (x ∷ xs) lt =
-    let rest = all_above m (n + 1) test xs (omega arith) in
-    numbers_cases (λ ns. list_all (λ y. nat_lt m y) ns ≡ true) n test x xs (λ _. and_from (nat_lt m n) _ (lt-ltb m n lt) rest) (λ _. rest)
-
-rising_from : {A : Type 0} (n : ℕ) (test : A → Bool) (xs : List A) → is_rising (numbers_from n test xs) ≡ true
-rising_from n test [] = refl
-rising_from n test (x ∷ xs) =
-    let rest = rising_from (n + 1) test xs in
-    numbers_cases (λ ns. is_rising ns ≡ true) n test x xs (λ _. and_from _ _ (all_above n (n + 1) test xs (omega arith)) rest) (λ _. rest)
-
 none_before : {A : Type 0} (n c : ℕ) (test : A → Bool) (xs : List A) → c < n → has (numbers_from n test xs) c ≡ false
 none_before n c test [] lt = refl
 none_before n c test (x ∷ xs) lt =
@@ -61,7 +45,7 @@ has_from n (suc k) c test (x ∷ xs) e =
     numbers_cases (λ ns. has ns c ≡ passes test xs k) n test x xs (λ _. rw apart rest) (λ _. rest)
 
 pub numbers_rise : {A : Type 0} (test : A → Bool) (xs : List A) → is_rising (numbers_of test xs) ≡ true
-numbers_rise test xs = rising_from 0 test xs
+numbers_rise test xs = numbers_from-rising 0 test xs
 
 pub has_numbers : {A : Type 0} (test : A → Bool) (xs : List A) (c : ℕ) → has (numbers_of test xs) c ≡ passes test xs c
 has_numbers test xs c = has_from 0 c c test xs (omega arith)

@@ -25,7 +25,8 @@ use Rattle.laws_session.specs.Climbs.{way_of, IsCarriedNext}
 use Rattle.laws_session.proofs.Births.{AreBirths-legal}
 use Rattle.laws_session.proofs.Fitting.{DoLinesFit-legal, fit-derived, fit_table-append}
 use Rattle.laws_session.proofs.Opened.{AreSplitsOpen-legal}
-use Rattle.laws_session.proofs.Learning.{IsCarried-stopped, is_at_most-trans}
+use Rattle.laws_session.proofs.Learning.{IsCarried-stopped}
+use Rattle.resolver_model.proofs.Soundness.{is_at_most-trans}
 use Rattle.laws_session.proofs.Climbing.{IsClimb-more, LearnsFrom-climb}
 use Rattle.frontier.specs.Stores.{Store, kept_at}
 use Rattle.search_core.specs.Stores.{Place, places_of}
