@@ -1,0 +1,3 @@
+pub mod Alphabets
+pub mod Sayings
+pub mod Printing

@@ -1,0 +1,4 @@
+pub mod Alphabet
+pub mod Lines
+pub mod Sayings
+pub mod Texts
