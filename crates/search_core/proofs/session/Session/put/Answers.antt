@@ -22,7 +22,8 @@ use Rattle.search_core.specs.Ways.{way}
 use Rattle.search_core.specs.declared.jobs.Job.{Job}
 use Rattle.search_core.specs.declared.jobs.Outcome.{Outcome}
 use Rattle.search_core.specs.Jobs.{IsOut, child, outcome_of}
-use Rattle.search_core.specs.Sessions.{Session, with_entry, IsFor}
+use Rattle.resolver_model.specs.Learning.{LearnsUpwards}
+use Rattle.search_core.specs.Sessions.{Session, with_entry, IsFor, IsPut}
 use Rattle.search_core.specs.Known.{IsKnown}
 use Rattle.search_core.proofs.Ways.{Follows-put}
 use Rattle.search_core.proofs.Known.{held_out, AreBelow-split, IsKnown-split}
@@ -114,3 +115,19 @@ invariant_of-self-in-Ok-put_children c =
     let L : List Line → Type 0 = λ learned. K (with_entry i.ledger (Put job.actor job.leaf (way s.problem job.node job.choice) lines)) (with_children i.frontier job.leaf c.args.outcome.children) learned in
     let entry : c.end_by_split.new.self ≡ with_entry i.ledger (Put job.actor job.leaf (way s.problem job.node job.choice) lines) = c.end_by_split.ensures ∙ ap (λ by. with_entry i.ledger (Put job.actor job.leaf by lines)) (by_is c.args.basis.now.problem s.problem job c.args.outcome c.requires.outcome same) in
     subst X (sym entry) (subst S (sym c.in-Ok-put_children.ensures) (subst L (sym c.in-Ok.ensures.all) (IsKnown-split i.ledger i.frontier i.rules i.given.items i.learned job c.args.outcome.children lines c.self.invariant out (children_are c.args.basis.now.problem s.problem job c.args.outcome c.requires.outcome same) c.in-Ok.ensures.ok.derived)))
+
+-- what was put is said of the session as it was
+put_is : (old now new : Session) (job : Job) (by : By) (lines : List Line) → old ≡ now → by ≡ way old.setting.problem job.node job.choice → new ≡ with_entry old (Put job.actor job.leaf by lines)
+    → LearnsUpwards old.setting old.history (Put job.actor job.leaf by lines) → Follows old.setting old.history (Put job.actor job.leaf by lines) → IsPut now job new
+put_is old now new job by lines e same grown learns next =
+    let B : By → Type 0 = λ b. (new ≡ with_entry old (Put job.actor job.leaf b lines)) × LearnsUpwards old.setting old.history (Put job.actor job.leaf b lines) × Follows old.setting old.history (Put job.actor job.leaf b lines) in
+    let I : Session → Type 0 = λ x. IsPut x job new in
+    subst I e (lines, subst B same (grown, learns, next))
+
+pub returns-in-Ok-put_children-clause-ok : goal.returns-in-Ok-put_children-clause-ok
+returns-in-Ok-put_children-clause-ok c =
+    let i = c.self.inside in
+    let out = out_inside i.ledger c.args.self.now c.args.job c.self.view_is c.requires.job in
+    let same = problem_inside i.ledger c.args.self.now c.args.basis.now.problem c.self.view_is c.requires.basis.same_problem in
+    let by = by_is c.args.basis.now.problem i.ledger.setting.problem c.args.job c.args.outcome c.requires.outcome same in
+    put_is i.ledger c.args.self.now c.end_by_split.new.self c.args.job c.args.outcome.by c.in-Ok.lines c.self.view_is by c.end_by_split.ensures (c.in-Ok.ensures.ok.learns c.args.job.actor) (follows i.ledger.setting i.ledger.history c.args.job c.args.outcome.by c.in-Ok.lines c.self.invariant.legal out by c.in-Ok.ensures.ok)
