@@ -1,5 +1,5 @@
 -- After a history one answer alone is right, to an actor that asks for a leaf and to a command.
-use Rattle.std.proofs.Common.{inl, inr, ◌≡◌, ◌<◌, ◌≤◌, ◌⊎◌, ℕ, Bool, true, false, not, ◌&&◌, List, [], ◌∷◌, ◌++◌, refl, ap, sym, subst, ◌∙◌, arith}
+use Rattle.std.proofs.Common.{inl, inr, ◌≡◌, ◌<◌, ◌≤◌, ℕ, true, false, not, ◌&&◌, List, [], ◌∷◌, ◌++◌, refl, ap, sym, subst, ◌∙◌, arith}
 use Rattle.std.specs.declared.cmp.Ordering.{Ordering}
 use Rattle.std.specs.declared.cmp.Ordering.TheVariants.{Less, Equal, Greater}
 use Rattle.std.specs.Cmp.{IsTotalOrder}
@@ -8,16 +8,16 @@ use Rattle.std.specs.FinMap.{nat_cmp-IsAntisymmetric}
 use Rattle.std.specs.Ordering.{nat_cmp, is_le, ordering_reverse}
 use Rattle.std.proofs.lemmas.Bool.{and_parts, not-true}
 use Rattle.std.proofs.lemmas.Cmp.{on_total, then_total, nat_cmp_total, nat_list_cmp_total}
-use Rattle.lists.proofs.Members.{Member, list_all-Member}
+use Rattle.lists.proofs.Members.{list_all-Member}
 use Rattle.lists.proofs.Orders.{then_equal}
 use Rattle.resolver_model.specs.declared.history.Command.{Command}
 use Rattle.resolver_model.specs.declared.history.Command.TheVariants.{Next}
 use Rattle.resolver_model.specs.declared.history.Reply.{Reply}
 use Rattle.resolver_model.specs.declared.history.Reply.TheVariants.{Solution, NoMore, NotYet}
 use Rattle.resolver_model.specs.declared.history.Entry.TheVariants.{Say}
-use Rattle.resolver_model.specs.Costs.{Table, cost_cmp, set_cmp, IsBefore, IsUpTo}
+use Rattle.resolver_model.specs.Costs.{Table, cost_cmp, set_cmp, IsUpTo}
 use Rattle.resolver_model.specs.Problems.{is_nothing_open}
-use Rattle.resolver_model.specs.Trees.{Leaf, Situation, is_shut, is_finished, is_some_wanted, is_all_shut, key_of, tree_at}
+use Rattle.resolver_model.specs.Trees.{Leaf, Situation, is_shut, is_some_wanted, is_all_shut, key_of, tree_at}
 use Rattle.resolver_model.specs.Histories.{History, puts_since, cursor_at}
 use Rattle.resolver_model.specs.Answers.{Setting, situation_at, delivery_count, IsAtEnd}
 use Rattle.resolver_model.specs.Legal.{IsLegal, Follows}

@@ -1,9 +1,8 @@
 -- Calls keep the history legal, and jobs out.
-use Rattle.std.proofs.Common.{◌≡◌, ℕ, true, List, [], ◌∷◌, ◌++◌, false, refl, ap, sym, subst, ◌∙◌}
-use Rattle.resolver_model.specs.declared.node.Node.{Node}
+use Rattle.std.proofs.Common.{◌≡◌, ℕ, true, List, [], ◌∷◌, ◌++◌, false, refl, sym, subst, ◌∙◌}
 use Rattle.resolver_model.specs.declared.history.Command.{Command}
 use Rattle.resolver_model.specs.declared.history.Entry.{Entry}
-use Rattle.resolver_model.specs.declared.history.Entry.TheVariants.{Say, Take, Put, Back}
+use Rattle.resolver_model.specs.declared.history.Entry.TheVariants.{Say, Take, Back}
 use Rattle.resolver_model.specs.Histories.{History}
 use Rattle.resolver_model.specs.Answers.{Setting}
 use Rattle.resolver_model.specs.Legal.{IsLegal, Follows}
@@ -17,7 +16,7 @@ use Rattle.search_core.specs.declared.jobs.Taken.TheVariants.{Work, Ready, Done,
 use Rattle.search_core.specs.declared.jobs.Answer.{Answer}
 use Rattle.search_core.specs.declared.jobs.Answer.TheVariants as answer
 use Rattle.search_core.specs.Jobs.{IsOut}
-use Rattle.search_core.specs.Sessions.{Session, IsTaken, IsAnswer, IsPut, fresh, with_entry, with_room, after_take, after_answer}
+use Rattle.search_core.specs.Sessions.{Session, fresh, with_entry, with_room}
 use Rattle.search_core.specs.Calls.{Call, TakeCall, PutCall, BackCall, ReserveCall, AnswerCall, RefusedCall, IsCall, AreCalls}
 use Rattle.search_core.proofs.Ways.{Follows-take, Follows-back}
 

@@ -1,9 +1,8 @@
 -- What a list of those that pass says of the first one, and what a larger set has beyond a smaller one.
-use Rattle.std.proofs.Common.{inl, inr, ◌≡◌, ◌≢◌, ◌<◌, ◌⊎◌, ℕ, zero, suc, List, [], ◌∷◌, ◌≤◌, Bool, true, false, cond, not, ◌&&◌, ◌||◌, nat_eq, nat_lt, Some, None, Option, refl, ap, sym, subst, ◌∙◌, length, get_or, arith}
+use Rattle.std.proofs.Common.{inl, inr, ◌≡◌, ◌<◌, ℕ, List, [], ◌∷◌, ◌≤◌, Bool, true, false, cond, not, ◌&&◌, ◌||◌, nat_eq, nat_lt, Some, None, refl, ap, sym, subst, ◌∙◌, length, get_or, arith}
 use Rattle.std.specs.List.{find, filter, list_all}
 use Rattle.std.proofs.lemmas.Bool.{and_parts, not-true, not-false}
 use Rattle.std.proofs.lemmas.Bool.Decides.{nat_tests}
-use Rattle.lists.proofs.Members.{Member}
 use Rattle.lists.proofs.Sets.{list_all-has, has_none_upto}
 use Rattle.lists.proofs.With.{has-with_new, has-with_cases}
 use Rattle.lists.specs.Sets.{is_rising, has, with}

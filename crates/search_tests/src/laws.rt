@@ -4,6 +4,7 @@ use laws_session::{
     leaves_are_unsplit_births, leaves_cover, lines_fit_the_table, lines_stay_sound,
     minimal_solutions_come_in_turn, puts_are_few, rules_name_choices, splits_were_open,
 };
+use search_core::{answers_are_exact, calls_stay_legal, jobs_stay_out, rules_can_be_made};
 use std::test::Fail;
 
 #[test]
@@ -25,6 +26,16 @@ fn laws_are_called(rt: HostRuntime) -> Result<(), Fail> {
     lines_fit_the_table();
     splits_were_open();
     climbs_learn_upwards();
+    assert!(rt; true);
+    Ok(())
+}
+
+#[test]
+fn laws_of_calls_are_called(rt: HostRuntime) -> Result<(), Fail> {
+    calls_stay_legal();
+    answers_are_exact();
+    jobs_stay_out();
+    rules_can_be_made();
     assert!(rt; true);
     Ok(())
 }
