@@ -22,4 +22,3 @@ pub use mem_shelf::MemShelf;
 pub use mem_sink::MemSink;
 pub use mem_source::MemSource;
 pub use whole::{ReadEnd, WriteFault, read_whole, write_all};
-

@@ -11,7 +11,6 @@ ghost use Rattle.control_file.specs.Fields.{field_text};
 ghost use Rattle.control_file.specs.Laws.{ParagraphsStandIn, FirstFaultIsFirst, AreRunsOf};
 ghost use Rattle.control_file.specs.Passes.{IsFirstLine, own_names, SkipsBlank, SkipsContinued, Scans, TakesField, at_line, faulty};
 
-
 use ascii::is_space;
 use memchr::memchr;
 use std::marker::Model;

@@ -82,4 +82,3 @@ pub fn grammar()
     ensures restrictions { SeesRestrictions }
     ensures fields { ReadsFields }
 {}
-

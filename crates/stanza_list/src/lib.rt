@@ -20,7 +20,6 @@ use std::alloc::Global;
 use universe_model::{BuildEnd, FileKind, InputKind};
 use universe_parts::{ReadStanza, is_counted};
 
-
 // The end of a build by a stanza's fault.
 fn stanza_end(file: FileKind, fault: StanzaFault) -> BuildEnd
     ensures { result ≡ stanza_end file fault }
