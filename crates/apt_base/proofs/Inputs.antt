@@ -1,8 +1,8 @@
 -- A line that is read part by part from an input.
-use Rattle.std.proofs.Common.{◌≡◌, ℕ, ◌+◌, ◌<◌, ◌≤◌, Bool, true, false, not, eqb, List, [], ◌∷◌, ◌++◌, length, Option, Some, None, Ok, Err, refl, sym, ap, subst, ◌∙◌, arith, append_assoc, append-nil, length-append, IsTrue}
+use Rattle.std.proofs.Common.{inl, inr, ◌⊎◌, ◌≡◌, ℕ, ◌+◌, ◌<◌, ◌≤◌, Bool, true, false, not, eqb, List, [], ◌∷◌, ◌++◌, length, Option, Some, None, Ok, Err, refl, sym, ap, subst, ◌∙◌, arith, append_assoc, append-nil, length-append, IsTrue}
 use Rattle.std.specs.Io.KnownBytes.{prepend_known, IsAtEnd}
 use Rattle.apt_base.specs.Faults.{Rose, IsLater}
-use Rattle.apt_base.specs.Bytes.{SourceState, IsSourceState, TakesAtMost}
+use Rattle.apt_base.specs.Bytes.{SourceState, IsSourceState, TakesBeside}
 use Rattle.apt_base.specs.Lines.{lines_of, before_newline, without_return, HasNoNewline, ReadsLine, InputReadsLine, TakesPart}
 use Rattle.apt_base.specs.declared.lines.LineEnd.TheVariants as line_end
 use Rattle.std.proofs.lemmas.Bool.Decides.{nat_tests}
@@ -19,6 +19,8 @@ pub record HasPart (old : SourceState) (first line held : List ℕ) (new : Sourc
   pub whole : first ++ more ≡ line ++ held
   pub clean : HasNoNewline line
   pub fits : length line + length held ≤ 4097
+  -- where a newline was held, nothing was taken yet
+  pub lazy : HasNoNewline first ⊎ ((new ≡ old) × (line ++ held ≡ first))
 
 pub part_of_nothing : (source : SourceState) (first : List ℕ) → length first ≤ 4097 → HasPart source first [] first source
 part_of_nothing source first fits = record {
@@ -29,7 +31,16 @@ part_of_nothing source first fits = record {
   whole = append-nil first;
   clean = tt;
   fits = omega (arith, fits);
+  lazy = inr (refl, refl);
 }
+
+-- where no newline is held now, none was held at first
+clean_first : (old new : SourceState) (first line held : List ℕ) → HasPart old first line held new → HasNoNewline held → HasNoNewline first
+clean_first old new first line held part clean =
+    elim part.lazy as (λ _. HasNoNewline first) [
+      | inl before ↦ before
+      | inr untouched ↦ subst HasNoNewline untouched.1 (no_newline-append line held part.clean clean)
+    ]
 
 -- the answer of a move is known
 pub as_answered : (answer known : Bool) (held rest line longer : List ℕ) → answer ≡ known → TakesPart answer held rest line longer → TakesPart known held rest line longer
@@ -47,6 +58,7 @@ part_moved old new first line held rest longer part move = record {
   whole = part.whole ∙ sym move.2 ∙ sym (append-nil longer) ∙ ap (λ r. longer ++ r) (sym move.1);
   clean = subst HasNoNewline (sym move.2) (no_newline-append line held part.clean move.0);
   fits = omega (arith, part.fits, ap length move.2, ap length move.1, length-append line held);
+  lazy = inl (clean_first old new first line held part move.0);
 }
 
 -- more bytes came
@@ -59,6 +71,7 @@ part_more old mid new first line held bytes part none sure later taken fits = re
   whole = sym (append_assoc first part.more bytes) ∙ ap (λ l. l ++ bytes) (part.whole ∙ ap (λ h. line ++ h) none ∙ append-nil line);
   clean = part.clean;
   fits = fits;
+  lazy = inl (clean_first old mid first line held part (subst HasNoNewline (sym none) tt));
 }
 
 -- the input is the line so far, what is held and what is left
@@ -151,9 +164,24 @@ memory_told old new first line held rest given part =
     let P : Option (List ℕ) → Type 0 = λ input. InputReadsLine input (Err line_end.NoMemory) given (prepend_known rest new.left) in
     subst P (sym (input_of old new first line held part)) (memory_is_told new.left (line ++ held) rest given)
 
-pub part_budget : (old new : SourceState) (first line held : List ℕ) → HasPart old first line held new → TakesAtMost 4097 old.left new.left
+pub part_budget : (old new : SourceState) (first line held : List ℕ) → HasPart old first line held new → TakesBeside 4097 first old.left new.left
 part_budget old new first line held part =
     (part.more, omega (arith, part.fits, ap length part.whole, length-append first part.more, length-append line held), part.taken)
+
+pub part_lazy : (old new : SourceState) (first line held : List ℕ) → HasPart old first line held new → HasNoNewline first ⊎ (new ≡ old)
+part_lazy old new first line held part =
+    elim part.lazy as (λ _. HasNoNewline first ⊎ (new ≡ old)) [
+      | inl before ↦ inl before
+      | inr untouched ↦ inr untouched.0
+    ]
+
+pub part_held : (old new : SourceState) (first line held : List ℕ) → HasPart old first line held new → length held ≤ 4097
+part_held old new first line held part = omega (arith, part.fits)
+
+-- what is held behind a line that was found
+pub found_held : (old new : SourceState) (first line held rest longer : List ℕ) → HasPart old first line held new → TakesPart true held rest line longer → length rest ≤ 4097
+found_held old new first line held rest longer part move =
+    omega (arith, part.fits, ap length (found_parts old new first line held rest longer part move), length-append line held, length-append longer (10 ∷ rest))
 
 -- a sure source doesn't fail
 pub sure_source : (old mid new : SourceState) → mid.sure ≡ old.sure → new.sure ≡ mid.sure → Rose mid.faults new.faults → IsSourceState new → IsTrue old.sure → ⊥

@@ -23,6 +23,10 @@ pub record Takes (old : Option (List ℕ)) (result : Result ℕ Failed) (buffer 
 abbrev pub TakesAtMost : ℕ → Option (List ℕ) → Option (List ℕ) → Type 0
 TakesAtMost most old new = (front : List ℕ) × (length front ≤ most) × (old ≡ prepend_known front new)
 
+-- what was held, and what was taken from the front of those that were left, are together at most so many bytes
+abbrev pub TakesBeside : ℕ → List ℕ → Option (List ℕ) → Option (List ℕ) → Type 0
+TakesBeside most held old new = (front : List ℕ) × (length held + length front ≤ most) × (old ≡ prepend_known front new)
+
 -- the first bytes were written, not all of these
 abbrev pub WritesPrefix : Option (List ℕ) → List ℕ → Option (List ℕ) → Type 0
 WritesPrefix old bytes new = (count : ℕ) × (count < length bytes) × (new ≡ append_known old (take count bytes))

@@ -1,11 +1,11 @@
 // The lines of an input, read one at a time.
-ghost use Rattle.std.specs.Prelude.{◌≡◌, ◌==◌, ℕ, ◌+◌, ◌-◌, ◌<◌, ◌≤◌, List, [], ◌++◌, length, take, drop, IfOk, IfSome, IsTrue, IsErrOf};
+ghost use Rattle.std.specs.Prelude.{◌≡◌, ◌⊎◌, ◌==◌, ℕ, ◌+◌, ◌-◌, ◌<◌, ◌≤◌, List, [], ◌++◌, length, take, drop, IfOk, IfSome, IsTrue, IsErrOf};
 ghost use Rattle.std.specs.Option.{IsSomeAnd, is_some};
 ghost use Rattle.std.specs.List.{position};
 ghost use Rattle.std.specs.Io.KnownBytes.{prepend_known, IsAtEnd};
 ghost use Rattle.apt_base.specs.Faults.{IsLater, Rose, HasCause};
-ghost use Rattle.apt_base.specs.Bytes.{TakesAtMost, IsRead};
-ghost use Rattle.apt_base.specs.Lines.{InputReadsLine, most_line_bytes, without_return, TakesPart};
+ghost use Rattle.apt_base.specs.Bytes.{TakesBeside, IsRead};
+ghost use Rattle.apt_base.specs.Lines.{InputReadsLine, most_line_bytes, without_return, HasNoNewline, TakesPart};
 
 use crate::{Failed, Source};
 use choice_set::NoMemory;
@@ -85,8 +85,10 @@ impl LineReader {
     ///
     /// A line ends before a newline, and one carriage return before that is dropped too. A last line
     /// without a newline is a line if it has a byte. `TooLong` comes exactly where more than 4,096
-    /// bytes stand before the newline or the end, `ReadFault` only where the source failed. After an
-    /// error the reader and its line are of no further use.
+    /// bytes stand before the newline or the end, `ReadFault` only where the source failed. What the
+    /// reader held and what it takes from the source in a call are together at most 4,097 bytes, and
+    /// it takes none where it holds a newline. After an error the reader and its line are of no
+    /// further use.
     pub fn next_line<I: Source>(
         &mut self,
         source: &mut I,
@@ -98,7 +100,9 @@ impl LineReader {
         ensures never { IsTrue (I.state source.old).sure → IsErrOf result LineEnd.ReadFault → ⊥ }
         ensures length { IfOk result (λ _. length line.new.items ≤ most_line_bytes) }
         ensures input { InputReadsLine (prepend_known self.old (I.state source.old).left) result line.new.items (prepend_known self.new (I.state source.new).left) }
-        ensures budget { TakesAtMost 4097 (I.state source.old).left (I.state source.new).left }
+        ensures budget { TakesBeside 4097 self.old (I.state source.old).left (I.state source.new).left }
+        ensures held { IfOk result (λ _. length self.new ≤ 4097) }
+        ensures lazy { HasNoNewline self.old ⊎ (I.state source.new ≡ I.state source.old) }
     {
         let _ = &self.end;
         line.clear();
