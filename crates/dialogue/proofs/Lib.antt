@@ -1,3 +1,4 @@
 pub mod Alphabets
+pub mod Naming
 pub mod Sayings
 pub mod Printing

@@ -1,6 +1,7 @@
 // Lines of the dialogue.
 ghost use Rattle.std.specs.Prelude.{◌≡◌, ◌∷◌, []};
 ghost use Rattle.ascii.specs.Texts.{words};
+ghost use Rattle.resolver_model.specs.Answers.{NamesChoice};
 ghost use Rattle.universe_model.specs.Universes.{IsProblemOf};
 ghost use Rattle.universe_model.specs.Tokens.{choice_of};
 ghost use Rattle.dialogue.specs.Lines.{command_of, command_by, said_by, alone, with_token, marking, marking_of, bad_token, cap_of, cap_with, level_of, most_of};
@@ -104,11 +105,8 @@ fn said_by(universe: &Universe, problem: &Problem, verb: Verb, rest: &[u8]) -> C
     }
 }
 
-/// The command that a line is, without its newline: its words stand between spaces and tabs. `next`, `prev`, `rules`,
-/// `summary`, `accept` and `quit` stand alone; `reject`, `approve` and `free` take the token of a choice of the problem;
-/// `cap` takes a level of the cost, counted from 1, and a number or `off`. Any other line is `Bad` with the first kind of
-/// `BadLine` that applies. Takes no memory.
-pub fn read_command(universe: &Universe, problem: &Problem, line: &[u8]) -> Command
+// The command of a line, by its first word and what stands behind it.
+fn command_of(universe: &Universe, problem: &Problem, line: &[u8]) -> Command
     requires { IsProblemOf universe.now problem.now }
     ensures { result ≡ command_of universe.now problem.now line.now }
 {
@@ -119,4 +117,16 @@ pub fn read_command(universe: &Universe, problem: &Problem, line: &[u8]) -> Comm
         Some(verb) => said_by(universe, problem, verb, rest),
         None => Command::Bad(BadLine::Unknown),
     }
+}
+
+/// The command that a line is, without its newline: its words stand between spaces and tabs. `next`, `prev`, `rules`,
+/// `summary`, `accept` and `quit` stand alone; `reject`, `approve` and `free` take the token of a choice of the problem;
+/// `cap` takes a level of the cost, counted from 1, and a number or `off`. Any other line is `Bad` with the first kind of
+/// `BadLine` that applies. A command names choices of the problem alone. Takes no memory.
+pub fn read_command(universe: &Universe, problem: &Problem, line: &[u8]) -> Command
+    requires { IsProblemOf universe.now problem.now }
+    ensures command { result ≡ command_of universe.now problem.now line.now }
+    ensures choice { NamesChoice problem.now result }
+{
+    command_of(universe, problem, line)
 }
