@@ -1,3 +1,4 @@
 pub mod Views
 pub mod Said
 pub mod Building
+pub mod TokenNumbers

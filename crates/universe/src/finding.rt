@@ -57,9 +57,10 @@ impl Universe {
     }
 
     // The version of a package that a token names.
-    fn version_said(&self, package: u32, said: &Said<'_>) -> Option<u32>
+    pub(crate) fn version_said(&self, package: u32, said: &Said<'_>) -> Option<u32>
         requires { «package» < length self.now.names }
-        ensures { result ≡ version_named self.now «package» (token_said said.now) }
+        ensures version { result ≡ version_named self.now «package» (token_said said.now) }
+        ensures range { IfSome result (λ v. v < length self.now.versions) }
     {
         let _ = self.problem.versions();
         match said {
@@ -81,7 +82,7 @@ impl Universe {
     }
 
     // The soft dependency of a version for a group of its Recommends.
-    fn recommends_of(&self, version: u32, place: u32) -> Option<u32>
+    pub(crate) fn recommends_of(&self, version: u32, place: u32) -> Option<u32>
         ensures { result ≡ position (is_recommends_of version place) self.now.requirements }
     {
         for dep in 0..self.problem.deps() {

@@ -10,6 +10,7 @@ ghost use Rattle.universe_model.specs.Universes.{problem_of, package_named, name
 mod building;
 mod finding;
 mod known;
+mod numbering;
 mod tokens;
 
 pub use choice_set::NoMemory;

@@ -1,0 +1,3 @@
+mod Stamps
+mod MarkedChoices
+mod SumParts

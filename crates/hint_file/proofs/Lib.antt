@@ -1,0 +1,5 @@
+mod Capping
+mod Numbered
+mod RowsRead
+mod TableRows
+mod Reading

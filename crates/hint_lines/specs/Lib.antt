@@ -1,0 +1,3 @@
+pub mod HintTexts
+pub mod LinesLeft
+pub mod Counted
