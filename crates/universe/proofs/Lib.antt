@@ -1,6 +1,7 @@
 mod Zips
 mod Kept
 mod Walks
+mod Owned
 mod Built
 mod Making
 mod Whole

@@ -81,13 +81,14 @@ impl Universe {
         is_all(soft, source == version, self.group_of(dep) == place)
     }
 
-    // The soft dependency of a version for a group of its Recommends.
+    // The soft dependency of a version for a group of its Recommends, among the dependencies of the version.
     pub(crate) fn recommends_of(&self, version: u32, place: u32) -> Option<u32>
+        requires { version < length self.now.versions }
         ensures { result ≡ position (is_recommends_of version place) self.now.requirements }
     {
-        for dep in 0..self.problem.deps() {
-            if self.is_recommends_of(version, place, dep) {
-                return Some(dep);
+        for dep in self.problem.deps_of(version) {
+            if self.is_recommends_of(version, place, *dep) {
+                return Some(*dep);
             }
         }
         None
@@ -95,7 +96,8 @@ impl Universe {
 
     // The choice that a token with this version names.
     fn choice_said(&self, problem: &Problem, version: u32, said: &Said<'_>) -> Option<u32>
-        requires { IsProblemOf self.now problem.now }
+        requires beside { IsProblemOf self.now problem.now }
+        requires version { version < length self.now.versions }
         ensures { result ≡ choice_named self.now problem.now version (token_said said.now) }
     {
         match said {
