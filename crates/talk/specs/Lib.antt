@@ -1,0 +1,4 @@
+pub mod Transcripts
+pub mod Ends
+pub mod Runs
+pub mod Turns
