@@ -2,6 +2,5 @@ pub mod Quiet
 pub mod Spoken
 pub mod Ending
 pub mod Remaining
-pub mod Choosing
 pub mod Costing
 pub mod Running
