@@ -5,7 +5,7 @@ use cost_vector::CostTable;
 use lone_search::answer_alone;
 use problem::Builder;
 use resolver_model::{Command, Reply};
-use search_core::{Session, may_begin};
+use search_core::{Said, Session, may_begin};
 use std::alloc::Global;
 use std::test::Fail;
 use user_rules::Rules;
@@ -22,12 +22,17 @@ fn is_empty_set_first(alloc: Global) -> Result<bool, NoMemory> {
     }
     let mut session = Session::new(alloc, &basis, rules, 10, 1)?;
     let said = answer_alone(alloc, &basis, &mut session, Command::Next)?;
-    match said.reply {
+    let Said {
+        reply,
+        deliveries,
+        ..
+    } = said;
+    match reply {
         Reply::Solution {
             number,
             choices,
             ..
-        } => Ok(number == 1 && choices.len() == 0 && said.deliveries == 1),
+        } => { Ok(number == 1 && choices.len() == 0 && deliveries == 1) }
         _ => Ok(false),
     }
 }
