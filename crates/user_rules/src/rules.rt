@@ -31,8 +31,9 @@ impl Model for Rules {
 }
 
 impl Rules {
-    ghost use Rattle.std.specs.Prelude.{◌≡◌, ℕ, IsTrue, IsFalse, IfOk, MatchOption, is_ok, if◌then◌else◌};
+    ghost use Rattle.std.specs.Prelude.{◌≡◌, ℕ, [], IsTrue, IsFalse, IfOk, MatchOption, is_ok, if◌then◌else◌};
     ghost use Rattle.resolver_model.specs.Rules as model;
+    ghost use Rattle.lists.specs.Sets as sets;
     ghost use Rattle.resolver_model.specs.Rules.{no_rules, set_mark, mark_of, keeps, marks, is_against, IsLeastAgainst, is_over, IsLeastOver};
 
     /// No rules: every choice is free, and no level has a cap.
@@ -42,6 +43,18 @@ impl Rules {
         Rules {
             approved: ChoiceSet::empty(alloc),
             rejected: ChoiceSet::empty(alloc),
+            caps: Vec::new(alloc),
+        }
+    }
+
+    /// These choices approved, these rejected, and no level has a cap.
+    pub fn of_marks(alloc: Global, approved: ChoiceSet, rejected: ChoiceSet) -> Rules
+        requires { IsTrue (sets.is_disjoint approved rejected) }
+        ensures { result ≡ record { approved = approved; rejected = rejected; caps = [] } }
+    {
+        Rules {
+            approved,
+            rejected,
             caps: Vec::new(alloc),
         }
     }
