@@ -1,11 +1,10 @@
 -- The last hint that marks a number, and the last one that marks a package, by their places from 1; 0 where there is none.
-use Rattle.std.specs.Prelude.{◌≡◌, ◌≤◌, ℕ, ◌-◌, Bool, ◌&&◌, ◌==◌, max, List, [], Option, Some, length, slice_get, slice_index, if◌then◌else◌}
+use Rattle.std.specs.Prelude.{◌≡◌, ◌≤◌, ℕ, ◌-◌, Bool, ◌&&◌, ◌==◌, max, List, Option, Some, length, slice_get, slice_index, if◌then◌else◌}
 use Rattle.std.specs.List.{filter}
 use Rattle.lists.specs.Below.{below}
-use Rattle.resolver_model.specs.Rules.{Rules}
 use Rattle.resolver_model.specs.Problems.{Problem, package_of, is_choice}
 use Rattle.resolver_model.specs.declared.marks.Mark.{Mark}
-use Rattle.resolver_model.specs.declared.marks.Mark.TheVariants.{Free, Approved, Rejected}
+use Rattle.resolver_model.specs.declared.marks.Mark.TheVariants.{Free}
 use Rattle.hint_effects.specs.Effects.{is_present, mark_by, is_mark}
 use Rattle.hint_effects.specs.declared.Target.{Target}
 use Rattle.hint_effects.specs.declared.Target.TheVariants.{One, Whole, Nothing}
@@ -41,9 +40,9 @@ IsWith old Nothing value new = ((k : ℕ) → at_number new k ≡ at_number old 
 abbrev pub has_mark : Problem → List Hint → Mark → ℕ → Bool
 has_mark p hints mark c = is_choice p c && is_mark (mark_by p hints c) mark
 
--- the rules with the marks of the choices below n
-abbrev pub rules_upto : Problem → List Hint → ℕ → Rules
-rules_upto p hints n = record { approved = filter (has_mark p hints Approved) (below n); rejected = filter (has_mark p hints Rejected) (below n); caps = [] }
+-- the choices below n that have the mark
+abbrev pub marked_upto : Problem → List Hint → Mark → ℕ → List ℕ
+marked_upto p hints mark n = filter (has_mark p hints mark) (below n)
 
 abbrev pub mark_in : Option Hint → Mark
 mark_in (Some (Marks mark target)) = mark

@@ -1,11 +1,11 @@
 // The rules that hints set.
-ghost use Rattle.std.specs.Prelude.{◌≡◌, ◌≤◌, ◌+◌, ℕ, IfOk, OnOk, slice_get, length};
-ghost use Rattle.hint_effects.specs.Effects.{is_mark, mark_by, rules_of};
-ghost use Rattle.hint_effects.specs.Stamped.{AreStamps, mark_at, has_mark, rules_upto};
+ghost use Rattle.std.specs.Prelude.{◌≡◌, ◌≤◌, IfOk, length};
+ghost use Rattle.hint_effects.specs.Effects.{is_mark, mark_by, marked, rules_of};
+ghost use Rattle.hint_effects.specs.Stamped.{AreStamps, mark_at, has_mark};
 
 use crate::by_target::ByTarget;
 use crate::{Hint, Target};
-use choice_set::NoMemory;
+use choice_set::{ChoiceSet, NoMemory};
 use problem::Problem;
 use resolver_model::Mark;
 use std::alloc::Global;
@@ -67,36 +67,33 @@ fn has_mark(problem: &Problem, hints: &[Hint], stamps: &ByTarget, choice: u32, m
     problem.is_choice(choice) && is_mark(mark_of(problem, hints, stamps, choice), mark)
 }
 
-// Sets the mark of the next choice.
-fn set_next(
+// The choices that have the mark, rising.
+fn marked(
     alloc: Global,
     problem: &Problem,
     hints: &[Hint],
     stamps: &ByTarget,
-    choice: u32,
-    rules: &mut Rules,
-) -> Result<(), NoMemory>
-    requires stamps { AreStamps hints.now hints.now stamps.now }
-    requires upto { rules.old ≡ rules_upto problem.now hints.now choice }
-    ensures { OnOk result (rules.new ≡ rules_upto problem.now hints.now (choice + 1)) }
+    mark: Mark,
+) -> Result<ChoiceSet, NoMemory>
+    requires { AreStamps hints.now hints.now stamps.now }
+    ensures { IfOk result (λ set. set ≡ marked problem.now hints.now mark) }
 {
-    if has_mark(problem, hints, stamps, choice, Mark::Approved) {
-        return rules.set(alloc, choice, Mark::Approved);
+    let mut list = Vec::new(alloc);
+    for choice in 0..problem.versions() + problem.deps() {
+        if has_mark(problem, hints, stamps, choice, mark) {
+            list.push(choice)?;
+        }
     }
-    if has_mark(problem, hints, stamps, choice, Mark::Rejected) {
-        return rules.set(alloc, choice, Mark::Rejected);
-    }
-    Ok(())
+    ChoiceSet::from_list(alloc, list.as_slice())
 }
 
-/// The rules that hints set: each choice has the mark of the last hint that names it, and is free where none does.
+/// The rules that hints set: each choice has the mark of the last hint that names it, and is free where none does. The time is
+/// that of the choices and of the hints.
 pub fn rules_of(alloc: Global, problem: &Problem, hints: &[Hint]) -> Result<Rules, NoMemory>
     ensures { IfOk result (λ rules. rules ≡ rules_of problem.now hints.now) }
 {
     let stamps = stamps_of(alloc, hints)?;
-    let mut rules = Rules::new(alloc);
-    for choice in 0..problem.versions() + problem.deps() {
-        set_next(alloc, problem, hints, &stamps, choice, &mut rules)?;
-    }
-    Ok(rules)
+    let approved = marked(alloc, problem, hints, &stamps, Mark::Approved)?;
+    let rejected = marked(alloc, problem, hints, &stamps, Mark::Rejected)?;
+    Ok(Rules::of_marks(alloc, approved, rejected))
 }

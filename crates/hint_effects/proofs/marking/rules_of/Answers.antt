@@ -1,11 +1,12 @@
-use Rattle.std.proofs.Common.{◌≡◌, ◌∙◌, ◌+◌, ap, arith}
-use Rattle.resolver_model.specs.Problems.{version_count, dependency_count}
-use Rattle.hint_effects.specs.Stamped.{rules_upto}
-use Rattle.hint_effects.proofs.MarkedChoices.{all-marked}
+use Rattle.std.proofs.Common.{◌≡◌, ℕ, true, List, sym, subst}
+use Rattle.lists.specs.Sets.{is_disjoint}
+use Rattle.resolver_model.specs.declared.marks.Mark.TheVariants.{Approved}
+use Rattle.hint_effects.specs.Effects.{marked}
+use Rattle.hint_effects.proofs.MarkedChoices.{marks-apart}
 use Rattle.hint_effects.proofs.marking.rules_of.Goals as goal
 
-pub returns : goal.returns
-returns c =
-    let all : c.loop-choice.choice ≡ version_count c.args.problem.now + dependency_count c.args.problem.now =
-    omega (arith, c.loop-choice-test.false, c.loop-choice.auto.choice-end, c.versions.ensures.count, c.deps.ensures) in
-    c.loop-choice.invariant ∙ ap (rules_upto c.args.problem.now c.args.hints.now) all ∙ all-marked c.args.problem.now c.args.hints.now
+pub of_marks-requires : goal.of_marks-requires
+of_marks-requires c =
+    subst (λ (list : List ℕ). is_disjoint list c.in_ok-rejected.rejected ≡ true) (sym c.in_ok-approved.ensures)
+    (subst (λ (list : List ℕ). is_disjoint (marked c.args.problem.now c.args.hints.now Approved) list ≡ true) (sym c.in_ok-rejected.ensures)
+    (marks-apart c.args.problem.now c.args.hints.now))
