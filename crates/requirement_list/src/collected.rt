@@ -1,6 +1,6 @@
 //! What was collected of all dependencies.
 
-ghost use Rattle.std.specs.Prelude.{◌≡◌, ◌<◌, [], ◌∷◌, ◌++◌, List, length, nat_lt, IsTrue, MatchResult, false};
+ghost use Rattle.std.specs.Prelude.{◌≡◌, ◌<◌, [], ◌∷◌, ◌++◌, List, length, nat_lt, IsTrue, MatchResult, true, false};
 ghost use Rattle.std.specs.List.{list_all};
 ghost use Rattle.lists.specs.Sets.{is_rising};
 ghost use Rattle.resolver_model.specs.Problems.{version_count};
@@ -58,8 +58,8 @@ pub struct Collected {
     pub conflicts: Vec<bool>,
     // how many dependencies there are so far
     count: u64,
-    // whether they have too many targets
-    past: bool,
+    /// Whether they have too many targets.
+    pub past: bool,
 }
 
 impl Collected {
@@ -116,6 +116,21 @@ impl Collected {
             return Ok(());
         }
         self.put(source, targets, field)
+    }
+
+    /// Counts a dependency, once there are too many targets: then it does not matter which its own are.
+    pub fn count_one(&mut self) -> Result<(), BuildEnd>
+        requires { self.old.past ≡ true }
+        ensures { (r : Requirement) → Adds (r ∷ []) self.old result self.new }
+    {
+        if self.count < MOST_DEPENDENCIES as u64 {
+            self.count += 1;
+            return Ok(());
+        }
+        Err(BuildEnd::Limit {
+            which: Which::Dependencies,
+            count: MOST_DEPENDENCIES as u64 + 1,
+        })
     }
 
     // Puts a dependency into the tables, or notes that there are too many targets with it.

@@ -108,6 +108,9 @@ fn add_package(
     if package == own {
         return Ok(());
     }
+    if collected.past {
+        return collected.count_one();
+    }
     list_left(collected.builder.problem(), package, met, place, targets)?;
     collected.add(source, targets.as_slice(), Field::Conflicts)
 }

@@ -43,6 +43,9 @@ fn add_group(
     requires source { source < length index.now.versions }
     ensures { Adds (of_group (setting_of index.now collected.old) source (group_items group.now) ∷ []) collected.old result collected.new }
 {
+    if collected.past {
+        return collected.count_one();
+    }
     list_targets(index, group, targets)?;
     collected.add(source, targets.as_slice(), Field::Needs)
 }
@@ -113,6 +116,9 @@ fn add_recommended(
     ensures { let s = setting_of index.now collected.old in
         Adds (filter (λ r. not (is_broken_now s r)) (recommended s source place (group_items group.now) ∷ [])) collected.old result collected.new }
 {
+    if collected.past && !is_installed(collected.builder.problem(), source) {
+        return collected.count_one();
+    }
     list_targets(index, group, targets)?;
     if is_broken(collected.builder.problem(), source, targets.as_slice()) {
         return Ok(());
