@@ -44,11 +44,17 @@ fn found(text: &[u8], name: &[u8]) -> Result<u64, CtlFault>
     Ok(count)
 }
 
+// A refusal that was told: the program ends with a status other than 0.
+fn refuse(told: io::Result<()>) -> io::Result<()> {
+    told?;
+    Err(io::Error::from(io::ErrorKind::InvalidInput))
+}
+
 fn main(rt: HostRuntime) -> io::Result<()> {
     let mut words = env::args(&rt)?;
     let _program = words.next();
     let Some(path) = words.next() else {
-        return println!(rt; "usage: control_bench FILE NAME..");
+        return refuse(println!(rt; "usage: control_bench FILE NAME.."));
     };
     let text = fs::read(&rt, path.as_str())?;
     match count_all(&text) {
@@ -58,7 +64,7 @@ fn main(rt: HostRuntime) -> io::Result<()> {
                 counts.paragraphs, counts.fields
             )?;
         }
-        Err(fault) => println!(rt; "line {}: {:?}", fault.line, fault.kind)?,
+        Err(fault) => return refuse(println!(rt; "line {}: {:?}", fault.line, fault.kind)),
     }
     for name in words {
         if let Ok(count) = found(&text, name.as_bytes()) {

@@ -7,6 +7,12 @@ mod wide;
 
 use std::{env, io};
 
+// A refusal that was told: the program ends with a status other than 0.
+fn refuse(told: io::Result<()>) -> io::Result<()> {
+    told?;
+    Err(io::Error::from(io::ErrorKind::InvalidInput))
+}
+
 fn main(rt: HostRuntime) -> io::Result<()> {
     let mut words = env::args(&rt)?;
     let _program = words.next();
@@ -16,6 +22,6 @@ fn main(rt: HostRuntime) -> io::Result<()> {
     };
     match wide::measure(rt.alloc(), count) {
         Some(number) => println!(rt; "{number}"),
-        None => println!(rt; "stopped"),
+        None => refuse(println!(rt; "stopped")),
     }
 }

@@ -165,12 +165,18 @@ fn number(word: Option<String>) -> u32 {
     }
 }
 
+// A refusal that was told: the program ends with a status other than 0.
+fn refuse(told: io::Result<()>) -> io::Result<()> {
+    told?;
+    Err(io::Error::from(io::ErrorKind::InvalidInput))
+}
+
 fn run(rt: &HostRuntime, universe: &Universe, words: &[String], times: Times) -> io::Result<()> {
     let Ok(problem) = wish(rt.alloc(), universe, words) else {
-        return println!(rt; "no such action");
+        return refuse(println!(rt; "no such action"));
     };
     let Ok(copies) = copies(rt.alloc(), universe, words, times.copies) else {
-        return println!(rt; "no memory");
+        return refuse(println!(rt; "no memory"));
     };
     match find(rt.alloc(), &problem, times) {
         Ok(found) => println!(rt;
@@ -185,7 +191,7 @@ fn run(rt: &HostRuntime, universe: &Universe, words: &[String], times: Times) ->
             found.after,
             copies.len()
         ),
-        Err(_) => println!(rt; "no memory"),
+        Err(_) => refuse(println!(rt; "no memory")),
     }
 }
 
@@ -193,9 +199,9 @@ fn main(rt: HostRuntime) -> io::Result<()> {
     let mut words = env::args(&rt)?;
     let _program = words.next();
     let (Some(status), Some(packages)) = (words.next(), words.next()) else {
-        return println!(rt;
+        return refuse(println!(rt;
             "usage: step_bench STATUS PACKAGES CHOICES PLAIN AFTER COPIES [ACTION ...]"
-        );
+        ));
     };
     let times = Times {
         choices: number(words.next()),
@@ -210,14 +216,14 @@ fn main(rt: HostRuntime) -> io::Result<()> {
     let status = fs::read(&rt, status.as_str())?;
     let packages = fs::read(&rt, packages.as_str())?;
     if status.len() > 268_435_456 || packages.len() > 268_435_456 {
-        return println!(rt; "a file is too long");
+        return refuse(println!(rt; "a file is too long"));
     }
     match Universe::build(rt.alloc(), &status, &packages, b"amd64") {
         Ok(universe) => run(&rt, &universe, actions.as_slice(), times),
-        Err(BuildEnd::BadInput { file, line, kind }) => println!(rt;
-            "{file:?}, line {line}: {kind:?}"
-        ),
-        Err(BuildEnd::Limit { which, count }) => println!(rt; "{which:?}: {count}"),
-        Err(BuildEnd::NoMemory) => println!(rt; "no memory"),
+        Err(BuildEnd::BadInput { file, line, kind }) => {
+            refuse(println!(rt; "{file:?}, line {line}: {kind:?}"))
+        }
+        Err(BuildEnd::Limit { which, count }) => refuse(println!(rt; "{which:?}: {count}")),
+        Err(BuildEnd::NoMemory) => refuse(println!(rt; "no memory")),
     }
 }

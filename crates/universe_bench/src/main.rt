@@ -20,16 +20,22 @@ fn count_broken(alloc: Global, problem: &Problem) -> u32 {
     count
 }
 
+// A refusal that was told: the program ends with a status other than 0.
+fn refuse(told: io::Result<()>) -> io::Result<()> {
+    told?;
+    Err(io::Error::from(io::ErrorKind::InvalidInput))
+}
+
 fn main(rt: HostRuntime) -> io::Result<()> {
     let mut words = env::args(&rt)?;
     let _program = words.next();
     let (Some(status), Some(packages)) = (words.next(), words.next()) else {
-        return println!(rt; "usage: universe_bench STATUS PACKAGES");
+        return refuse(println!(rt; "usage: universe_bench STATUS PACKAGES"));
     };
     let status = fs::read(&rt, status.as_str())?;
     let packages = fs::read(&rt, packages.as_str())?;
     if status.len() > 268_435_456 || packages.len() > 268_435_456 {
-        return println!(rt; "a file is too long");
+        return refuse(println!(rt; "a file is too long"));
     }
     match Universe::build(rt.alloc(), &status, &packages, b"amd64") {
         Ok(universe) => {
@@ -42,10 +48,10 @@ fn main(rt: HostRuntime) -> io::Result<()> {
                 count_broken(rt.alloc(), problem)
             )
         }
-        Err(BuildEnd::BadInput { file, line, kind }) => println!(rt;
-            "{file:?}, line {line}: {kind:?}"
-        ),
-        Err(BuildEnd::Limit { which, count }) => println!(rt; "{which:?}: {count}"),
-        Err(BuildEnd::NoMemory) => println!(rt; "no memory"),
+        Err(BuildEnd::BadInput { file, line, kind }) => {
+            refuse(println!(rt; "{file:?}, line {line}: {kind:?}"))
+        }
+        Err(BuildEnd::Limit { which, count }) => refuse(println!(rt; "{which:?}: {count}")),
+        Err(BuildEnd::NoMemory) => refuse(println!(rt; "no memory")),
     }
 }
