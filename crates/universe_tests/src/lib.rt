@@ -1,4 +1,4 @@
-//! A happy path of each public call on the way from files to a problem.
+//! A happy path of each public call on the way from stanzas to a problem.
 //!
 //! They stand here, and not beside the calls, since a crate that has tests is proved a second time for them.
 #![tactic(auto)]
@@ -16,20 +16,8 @@ mod listed_versions;
 #[cfg(test)]
 mod meetings;
 #[cfg(test)]
-mod paragraphs;
-#[cfg(test)]
 mod parts;
-#[cfg(test)]
-mod relations;
 #[cfg(test)]
 mod requirements;
 #[cfg(test)]
-mod samples;
-#[cfg(test)]
-mod stanzas;
-#[cfg(test)]
-mod streams;
-#[cfg(test)]
 mod universes;
-#[cfg(test)]
-mod versions;
