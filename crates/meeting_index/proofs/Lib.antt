@@ -1,3 +1,5 @@
 pub mod CarrierLists
+pub mod CrowdLaws
+pub mod CrowdRanges
 pub mod NewNames
 pub mod Numbers

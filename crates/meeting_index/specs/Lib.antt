@@ -1,4 +1,6 @@
+pub mod CarriedLaws
 pub mod Carriers
+pub mod Crowds
 pub mod IndexFields
 pub mod Indexes
 pub mod Named

@@ -1,8 +1,8 @@
 // The index of all versions.
 
-ghost use Rattle.std.specs.Prelude.{◌≡◌, ◌≤◌, ◌++◌, length, map, nat_lt, IsTrue, IfOk, OnOk};
+ghost use Rattle.std.specs.Prelude.{◌≡◌, ◌≤◌, ◌||◌, ℕ, length, map, nat_lt, IsTrue, IfOk, OnOk};
 ghost use Rattle.std.specs.List.{list_all};
-ghost use Rattle.lists.specs.Sets.{is_rising};
+ghost use Rattle.lists.specs.Sets.{has, is_rising};
 ghost use Rattle.dep_fields.specs.Relationships.{meaning};
 ghost use Rattle.dep_fields.specs.Views.{group_items};
 ghost use Rattle.problem.specs.Limits.{most_versions};
@@ -11,7 +11,10 @@ ghost use Rattle.universe_model.specs.Meeting.{meets, meets_any};
 ghost use Rattle.universe_parts.specs.Listed.{version_listed};
 ghost use Rattle.meeting_index.specs.Carriers.{carried};
 
+use crate::crowding::{crowd_carriers, is_crowd};
+use crate::crowds::{Crowds, add_crowd};
 use crate::found::{Carriers, add_met};
+use crate::items::is_again;
 use crate::named::NamedNumbers;
 use crate::naming::name_carriers;
 use crate::provided::{Provided, list_provided};
@@ -21,6 +24,17 @@ use std::alloc::Global;
 use std::marker::Model;
 use universe_parts::{ListedVersion, is_plain};
 
+// Leaves each number once where there are many more than were left the last time. Answers how many were left.
+fn thin_out(numbers: &mut Vec<u32>, left: usize) -> usize
+    ensures { (number : ℕ) → has numbers.new.items number ≡ has numbers.old.items number }
+{
+    if numbers.len() / 2 <= left.saturating_add(65_536) {
+        return left;
+    }
+    make_rising(numbers);
+    numbers.len()
+}
+
 /// Finds the versions that meet an item of a relationship field, by the names that they carry or provide. A contract sees
 /// it as the native architecture and all versions.
 #[derive(Drop)]
@@ -29,6 +43,8 @@ pub struct MeetingIndex<'s, 'a> {
     versions: &'s [ListedVersion<'s, 'a>],
     provided: Vec<Provided<'a>>,
     named: NamedNumbers<'a>,
+    // the carriers of the names that many carry, so that those within a bound are found by halves
+    crowds: Crowds<'a>,
 }
 
 impl<'s, 'a> Model for MeetingIndex<'s, 'a> {
@@ -59,18 +75,20 @@ impl<'s, 'a> MeetingIndex<'s, 'a> {
     {
         let provided = list_provided(alloc, native, versions)?;
         let named = name_carriers(alloc, versions, provided.as_slice())?;
+        let crowds = crowd_carriers(alloc, &named, versions, provided.as_slice())?;
         Ok(MeetingIndex {
             native,
             versions,
             provided,
             named,
+            crowds,
         })
     }
 
     /// The numbers of the versions that meet an item, rising (Debian Policy 7.1 and 7.5).
     ///
     /// The only error is `NoMemory`.
-    pub fn met_by(&self, item: &Item<'_>, met: &mut Vec<u32>) -> Result<(), NoMemory>
+    pub fn met_by(&self, item: &Item<'a>, met: &mut Vec<u32>) -> Result<(), NoMemory>
         ensures met { OnOk result (met.new.items ≡ numbers_of (meets self.now.native (meaning item.now)) self.now.versions) }
         ensures rising { OnOk result (IsTrue (is_rising met.new.items)) }
         ensures within { OnOk result (IsTrue (list_all (λ v. nat_lt v (length self.now.versions)) met.new.items)) }
@@ -84,30 +102,40 @@ impl<'s, 'a> MeetingIndex<'s, 'a> {
     /// The numbers of the versions that meet one of the items of a group, rising: the targets of the group.
     ///
     /// The only error is `NoMemory`.
-    pub fn targets(&self, group: &Group<'_>, targets: &mut Vec<u32>) -> Result<(), NoMemory>
+    pub fn targets(&self, group: &Group<'a>, targets: &mut Vec<u32>) -> Result<(), NoMemory>
         ensures targets { OnOk result (targets.new.items ≡ numbers_of (meets_any self.now.native (group_items group.now)) self.now.versions) }
         ensures rising { OnOk result (IsTrue (is_rising targets.new.items)) }
         ensures within { OnOk result (IsTrue (list_all (λ v. nat_lt v (length self.now.versions)) targets.new.items)) }
     {
         targets.clear();
+        let mut last = None;
+        let mut left = 0;
         for item in group.items() {
-            self.add_met_by(&item, targets)?;
+            if !is_again(last, &item) {
+                self.add_met_by(&item, targets)?;
+                left = thin_out(targets, left);
+                last = Some(item);
+            }
         }
         make_rising(targets);
         Ok(())
     }
 
     // Adds the versions whose carriers meet an item.
-    fn add_met_by(&self, item: &Item<'_>, met: &mut Vec<u32>) -> Result<(), NoMemory>
-        ensures { OnOk result (met.new.items ≡ met.old.items ++ carried self.now.native self.now.versions (meaning item.now)) }
+    fn add_met_by(&self, item: &Item<'a>, met: &mut Vec<u32>) -> Result<(), NoMemory>
+        ensures { OnOk result ((c : ℕ) → has met.new.items c ≡ (has met.old.items c || has (carried self.now.native self.now.versions (meaning item.now)) c)) }
     {
         if !is_plain(self.native, item.arch) {
             return Ok(());
+        }
+        let numbers = self.named.at(item.name);
+        if is_crowd(numbers) {
+            return add_crowd(&self.crowds, item.name, item.rel, met);
         }
         let carriers = Carriers {
             versions: self.versions,
             provided: self.provided.as_slice(),
         };
-        add_met(met, &carriers, item.rel, self.named.at(item.name))
+        add_met(met, &carriers, item.rel, numbers)
     }
 }

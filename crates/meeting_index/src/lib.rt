@@ -2,8 +2,13 @@
 //! provide.
 #![tactic(auto)]
 
+mod carried;
+mod crowd;
+mod crowding;
+mod crowds;
 mod found;
 mod index;
+mod items;
 mod named;
 mod naming;
 mod provided;

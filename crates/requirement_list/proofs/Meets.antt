@@ -1,13 +1,8 @@
 -- Which versions and packages an item is met by, in the words of their numbers.
-use Rattle.std.proofs.Common.{inl, inr, ◌≡◌, ◌<◌, ◌≤◌, ℕ, zero, suc, List, [], ◌∷◌, ◌++◌, Bool, true, false, ◌&&◌, ◌||◌, not, length, refl, ap, sym, ◌∙◌, arith, nat_lt, nat_eq, get_or}
-use Rattle.std.specs.List.{filter, list_any}
-use Rattle.std.proofs.lemmas.Bool.{le-ltb, eqb-true, or_cases}
-use Rattle.std.proofs.lemmas.Bool.Decides.{nat_tests}
+use Rattle.std.proofs.Common.{inl, inr, ◌≡◌, ◌<◌, ◌≤◌, ℕ, zero, suc, List, [], ◌∷◌, Bool, true, false, ◌&&◌, not, length, refl, arith, nat_eq, get_or}
+use Rattle.std.specs.List.{list_any}
+use Rattle.std.proofs.lemmas.Bool.{or_cases}
 use Rattle.std.proofs.Math.Bool.{or-true}
-use Rattle.lists.proofs.Below.{has-below}
-use Rattle.lists.proofs.Sets.{has_place, has-end, has-filter}
-use Rattle.lists.specs.Below.{below}
-use Rattle.lists.specs.Sets.{has}
 use Rattle.universe_model.specs.Versions.{Version, is_of}
 use Rattle.requirement_list.specs.Settings.{owners_of}
 use Rattle.requirement_list.proofs.Numbers.{passes}

@@ -1,6 +1,6 @@
 -- The numbers in a range that are not among the met ones.
-use Rattle.std.proofs.Common.{◌≡◌, ◌≢◌, ◌<◌, ◌≤◌, ◌+◌, ℕ, zero, suc, List, [], ◌∷◌, ◌++◌, Bool, true, false, ◌&&◌, not, length, refl, ap, sym, ◌∙◌, arith, nat_lt, nat_le, nat_eq, get_or}
-use Rattle.std.specs.List.{filter, list_all}
+use Rattle.std.proofs.Common.{◌≡◌, ◌≢◌, ◌<◌, ◌≤◌, ◌+◌, ℕ, List, [], ◌∷◌, ◌++◌, true, false, ◌&&◌, not, length, refl, ap, sym, ◌∙◌, arith, nat_lt, nat_le, nat_eq, get_or}
+use Rattle.std.specs.List.{list_all}
 use Rattle.std.proofs.lemmas.Bool.{and_from, le-leb, le-ltb, lt-ltb, ltb-true, and_right}
 use Rattle.std.proofs.lemmas.Bool.Decides.{nat_tests}
 use Rattle.lists.proofs.Below.{filter-below_none, filter-below_yes, filter-below_no, is_rising-below, list_all-below}

@@ -1,9 +1,8 @@
 -- The dependencies of all versions, one version after another, and as a whole list.
-use Rattle.std.proofs.Common.{◌≡◌, ◌<◌, ◌+◌, ℕ, zero, suc, List, [], ◌∷◌, Bool, true, length, map, get_or, drop, drop-cons, add-one, ap, sym, ◌∙◌, arith}
+use Rattle.std.proofs.Common.{◌≡◌, ◌<◌, ℕ, zero, suc, List, [], ◌∷◌, Bool, true, length, map, get_or, ap, ◌∙◌, arith}
 use Rattle.std.specs.List.{list_all}
 use Rattle.std.proofs.lemmas.List.{append-nil}
 use Rattle.std.proofs.lemmas.Bool.{and_parts}
-use Rattle.lists.proofs.Cuts.{drop_at}
 use Rattle.resolver_model.specs.Problems.{Problem}
 use Rattle.meeting_index.specs.Indexes.{Indexed}
 use Rattle.universe_model.specs.Dependencies.{Requirement, Setting}

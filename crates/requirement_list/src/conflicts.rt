@@ -130,12 +130,12 @@ fn package_of(problem: &Problem, version: u32) -> u32
 
 // Adds the dependencies of an item of Conflicts or Breaks: of each other package with a version that meets it, on a version
 // that does not.
-fn add_conflict(
-    index: &MeetingIndex<'_, '_>,
+fn add_conflict<'a>(
+    index: &MeetingIndex<'_, 'a>,
     collected: &mut Collected,
     source: u32,
     own: u32,
-    item: &Item<'_>,
+    item: &Item<'a>,
     room: &mut Room,
 ) -> Result<(), BuildEnd>
     requires owners { collected.old.builder.owners ≡ owners_of index.now.versions }
@@ -158,12 +158,12 @@ fn add_conflict(
 }
 
 // Adds the dependencies of the items of a group.
-fn add_items(
-    index: &MeetingIndex<'_, '_>,
+fn add_items<'a>(
+    index: &MeetingIndex<'_, 'a>,
     collected: &mut Collected,
     source: u32,
     own: u32,
-    group: &Group<'_>,
+    group: &Group<'a>,
     room: &mut Room,
 ) -> Result<(), BuildEnd>
     requires owners { collected.old.builder.owners ≡ owners_of index.now.versions }
@@ -179,12 +179,12 @@ fn add_items(
 /// Adds the dependencies of Conflicts or of Breaks of a version of the package `own`. An item does not concern that package,
 /// which may provide the name.
 #[tactic(auto, unfolding(dep_fields::specs::Fields::field_of))]
-pub fn add_conflicts(
-    index: &MeetingIndex<'_, '_>,
+pub fn add_conflicts<'a>(
+    index: &MeetingIndex<'_, 'a>,
     collected: &mut Collected,
     source: u32,
     own: u32,
-    value: &[u8],
+    value: &'a [u8],
     room: &mut Room,
 ) -> Result<(), BuildEnd>
     requires owners { collected.old.builder.owners ≡ owners_of index.now.versions }

@@ -20,9 +20,9 @@ use problem::Problem;
 use universe_model::BuildEnd;
 
 // Lists the targets of a group.
-fn list_targets(
-    index: &MeetingIndex<'_, '_>,
-    group: &Group<'_>,
+fn list_targets<'a>(
+    index: &MeetingIndex<'_, 'a>,
+    group: &Group<'a>,
     targets: &mut Vec<u32>,
 ) -> Result<(), BuildEnd>
     ensures { MatchResult result (λ _. AreTargets index.now (group_items group.now) targets.new.items) (λ end. end ≡ NoMemory) }
@@ -32,11 +32,11 @@ fn list_targets(
 }
 
 // Adds the dependency of a group of Pre-Depends or Depends.
-fn add_group(
-    index: &MeetingIndex<'_, '_>,
+fn add_group<'a>(
+    index: &MeetingIndex<'_, 'a>,
     collected: &mut Collected,
     source: u32,
-    group: &Group<'_>,
+    group: &Group<'a>,
     targets: &mut Vec<u32>,
 ) -> Result<(), BuildEnd>
     requires owners { collected.old.builder.owners ≡ owners_of index.now.versions }
@@ -52,11 +52,11 @@ fn add_group(
 
 /// Adds the dependencies of Pre-Depends or of Depends. `targets` is room that is used again.
 #[tactic(auto, unfolding(dep_fields::specs::Fields::field_of))]
-pub fn add_groups(
-    index: &MeetingIndex<'_, '_>,
+pub fn add_groups<'a>(
+    index: &MeetingIndex<'_, 'a>,
     collected: &mut Collected,
     source: u32,
-    value: &[u8],
+    value: &'a [u8],
     targets: &mut Vec<u32>,
 ) -> Result<(), BuildEnd>
     requires owners { collected.old.builder.owners ≡ owners_of index.now.versions }
@@ -103,12 +103,12 @@ fn is_broken(problem: &Problem, source: u32, targets: &[u32]) -> bool
 }
 
 // Adds the dependency of a group of Recommends, unless it is broken in the installed state.
-fn add_recommended(
-    index: &MeetingIndex<'_, '_>,
+fn add_recommended<'a>(
+    index: &MeetingIndex<'_, 'a>,
     collected: &mut Collected,
     source: u32,
     place: u32,
-    group: &Group<'_>,
+    group: &Group<'a>,
     targets: &mut Vec<u32>,
 ) -> Result<(), BuildEnd>
     requires owners { collected.old.builder.owners ≡ owners_of index.now.versions }
@@ -128,11 +128,11 @@ fn add_recommended(
 
 /// Adds the dependencies of Recommends. Groups are counted from 1, also those that give no dependency.
 #[tactic(auto, unfolding(dep_fields::specs::Fields::field_of))]
-pub fn add_recommends(
-    index: &MeetingIndex<'_, '_>,
+pub fn add_recommends<'a>(
+    index: &MeetingIndex<'_, 'a>,
     collected: &mut Collected,
     source: u32,
-    value: &[u8],
+    value: &'a [u8],
     targets: &mut Vec<u32>,
 ) -> Result<(), BuildEnd>
     requires owners { collected.old.builder.owners ≡ owners_of index.now.versions }

@@ -19,12 +19,12 @@ use universe_model::BuildEnd;
 use universe_parts::{ListedVersion, ReadStanza};
 
 // Adds the dependencies of a version of the package `own` that is read.
-fn add_release(
-    index: &MeetingIndex<'_, '_>,
+fn add_release<'a>(
+    index: &MeetingIndex<'_, 'a>,
     collected: &mut Collected,
     source: u32,
     own: u32,
-    read: &ReadStanza<'_>,
+    read: &ReadStanza<'a>,
     room: &mut Room,
 ) -> Result<(), BuildEnd>
     requires owners { collected.old.builder.owners ≡ owners_of index.now.versions }
@@ -53,11 +53,11 @@ fn add_release(
 }
 
 /// Adds the dependencies of a version. What is absent has none.
-pub fn add_version(
-    index: &MeetingIndex<'_, '_>,
+pub fn add_version<'a>(
+    index: &MeetingIndex<'_, 'a>,
     collected: &mut Collected,
     source: u32,
-    version: &ListedVersion<'_, '_>,
+    version: &ListedVersion<'_, 'a>,
     room: &mut Room,
 ) -> Result<(), BuildEnd>
     requires owners { collected.old.builder.owners ≡ owners_of index.now.versions }
@@ -72,10 +72,10 @@ pub fn add_version(
 }
 
 /// Adds the dependencies of all versions, in order.
-pub fn add_versions(
-    index: &MeetingIndex<'_, '_>,
+pub fn add_versions<'a>(
+    index: &MeetingIndex<'_, 'a>,
     collected: &mut Collected,
-    versions: &[ListedVersion<'_, '_>],
+    versions: &[ListedVersion<'_, 'a>],
     room: &mut Room,
 ) -> Result<(), BuildEnd>
     requires owners { collected.old.builder.owners ≡ owners_of index.now.versions }

@@ -1,15 +1,44 @@
 -- The carriers of the item's name find what is carried.
-use Rattle.std.proofs.Common.{◌≡◌, ◌∙◌, sym, ap, subst, map, List, ℕ, ◌++◌, OnOk, true}
+use Rattle.std.proofs.Common.{◌≡◌, ◌∙◌, sym, ap, map, ◌++◌, ◌||◌, true, false, nat_eq}
 use Rattle.std.specs.List.{flat_map, slice_get}
+use Rattle.std.proofs.lemmas.List.Folds.{list_any-append}
+use Rattle.std.proofs.lemmas.Result.{on_ok_weaker}
+use Rattle.lists.specs.Sets.{has}
 use Rattle.dep_fields.specs.Relationships.{meaning}
 use Rattle.meeting_index.specs.Carriers.{own, carriers, carried, met_under}
+use Rattle.meeting_index.specs.Crowds.{is_crowd}
 use Rattle.meeting_index.specs.Indexes.{Indexed}
 use Rattle.meeting_index.specs.Provided.{carrier_of}
-use Rattle.meeting_index.proofs.CarrierLists.{found-carried}
+use Rattle.meeting_index.proofs.CarrierLists.{found-carried, has-none, has-plain}
+use Rattle.meeting_index.proofs.CrowdLaws.{or-none}
 use Rattle.universe_model.specs.Lists.{map_from}
 use Rattle.universe_parts.specs.Listed.{version_listed}
 use Rattle.universe_model.specs.Meeting.{is_plain}
 use Rattle.meeting_index.proofs.index.MeetingIndex.add_met_by.Goals as goal
+
+pub returns-then-not-is_plain : goal.returns-then-not-is_plain
+returns-then-not-is_plain c =
+    λ n.
+    let index = c.self.inside in
+    let item = meaning c.args.item.now in
+    let vs = map version_listed index.versions.now in
+    let other : is_plain index.native.now item.arch ≡ false = sym c.is_plain.ensures ∙ c.if-not-is_plain.true in
+    sym (or-none (has c.args.met.now.items n))
+    ∙ ap (λ b. has c.args.met.now.items n || b) (sym (has-none index.native.now vs item n other)
+    ∙ ap (λ (i : Indexed). has (carried i.native i.versions item) n) c.self.view_is)
+
+pub returns-then-is_crowd : goal.returns-then-is_crowd
+returns-then-is_crowd c =
+    let index = c.self.inside in
+    let item = meaning c.args.item.now in
+    let vs = map version_listed index.versions.now in
+    let plain : is_plain index.native.now item.arch ≡ true = sym c.is_plain.ensures ∙ c.if-not-is_plain.false in
+    on_ok_weaker c.add_crowd.result (λ more n.
+    more n
+    ∙ ap (λ b. has c.args.met.now.items n || b)
+    (c.self.invariant.crowds (record { bytes = c.args.item.now.name }) (sym (c.is_crowd.ensures ∙ ap is_crowd c.at-numbers.ensures) ∙ c.if-is_crowd.true) item.rel n
+    ∙ sym (has-plain index.native.now vs item n plain)
+    ∙ ap (λ (i : Indexed). has (carried i.native i.versions item) n) c.self.view_is)) c.add_crowd.ensures
 
 pub returns : goal.returns
 returns c =
@@ -20,9 +49,10 @@ returns c =
     let listed = map_from own 0 vs ++ map carrier_of c.as_slice.result.now in
     let plain : is_plain native item.arch ≡ true = sym c.is_plain.ensures ∙ c.if-not-is_plain.false in
     let all : listed ≡ carriers native vs = ap (λ ps. map_from own 0 vs ++ ps) (ap (map carrier_of) c.as_slice.ensures.value ∙ c.self.invariant.provided) in
-    let found : flat_map (λ number. met_under item.rel (slice_get listed number)) c.at.result.now ≡ carried native vs item =
-    found-carried native vs item listed c.at.result.now plain all (c.at.ensures ∙ c.self.invariant.named (record { bytes = c.args.item.now.name })) in
+    let found : flat_map (λ number. met_under item.rel (slice_get listed number)) c.at-numbers.result.now ≡ carried native vs item =
+    found-carried native vs item listed c.at-numbers.result.now plain all (c.at-numbers.ensures ∙ c.self.invariant.named (record { bytes = c.args.item.now.name })) in
     let seen : carried native vs item ≡ carried c.args.self.now.native c.args.self.now.versions item =
     ap (λ (i : Indexed). carried i.native i.versions item) c.self.view_is in
-    let P : List ℕ → Type 0 = λ numbers. OnOk c.add_met.result (c.add_met.new.met.items ≡ c.args.met.now.items ++ numbers) in
-    subst P (found ∙ seen) c.add_met.ensures
+    on_ok_weaker c.add_met.result (λ added n.
+    ap (λ numbers. has numbers n) (added ∙ ap (λ numbers. c.args.met.now.items ++ numbers) (found ∙ seen))
+    ∙ list_any-append (λ x. nat_eq x n) c.args.met.now.items (carried c.args.self.now.native c.args.self.now.versions item)) c.add_met.ensures

@@ -1,5 +1,5 @@
 -- Rising numbers with those that are carried are those of the versions that meet the item.
-use Rattle.std.proofs.Common.{◌∙◌, ap, ◌++◌, length, nat_lt, arith}
+use Rattle.std.proofs.Common.{◌∙◌, ap, ◌||◌, length, nat_lt, arith}
 use Rattle.std.specs.List.{list_all}
 use Rattle.lists.specs.Sets.{has}
 use Rattle.dep_fields.specs.Relationships.{meaning}
@@ -15,7 +15,7 @@ returns-clause-met c =
     let vs = c.args.self.now.versions in
     let item = meaning c.args.item.now in
     rising-carried native vs item c.make_rising.new.numbers.items c.make_rising.ensures.rising
-    (λ n. c.make_rising.ensures.same n ∙ ap (λ numbers. has numbers n) (c.in_ok-add_met_by.ensures ∙ ap (λ numbers. numbers ++ carried native vs item) c.clear.ensures.items))
+    (λ n. c.make_rising.ensures.same n ∙ c.in_ok-add_met_by.ensures n ∙ ap (λ numbers. has numbers n || has (carried native vs item) n) c.clear.ensures.items)
 
 pub returns-clause-within : goal.returns-clause-within
 returns-clause-within c =

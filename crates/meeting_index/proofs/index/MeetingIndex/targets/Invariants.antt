@@ -1,11 +1,16 @@
-use Rattle.std.proofs.Common.{◌≡◌, ◌++◌}
+use Rattle.std.proofs.Common.{◌≡◌, ◌||◌, ℕ}
 use Rattle.std.specs.List.{flat_map}
+use Rattle.std.specs.Option.{ForSome}
+use Rattle.lists.specs.Sets.{has}
+use Rattle.dep_fields.specs.Relationships.{meaning}
 use Rattle.dep_fields.specs.Views.{group_items, items_left}
 use Rattle.meeting_index.specs.Carriers.{carried}
 use Rattle.meeting_index.proofs.index.MeetingIndex.targets.Given as goal
 
--- what is found so far, and by the items that are left, is all
+-- what is found so far, and by the items that are left, is all, and what the last item finds was found
 abbrev pub invariant-loop-item : goal.invariant-loop-item
-invariant-loop-item l =
-    l.targets.items ++ flat_map (carried l.self.native l.self.versions) (items_left l.item-iterator)
-    ≡ flat_map (carried l.self.native l.self.versions) (group_items l.group)
+invariant-loop-item l = record {
+  all : (c : ℕ) → (has l.targets.items c || has (flat_map (carried l.self.native l.self.versions) (items_left l.item-iterator)) c)
+      ≡ has (flat_map (carried l.self.native l.self.versions) (group_items l.group)) c;
+  last : ForSome l.last (λ item. (c : ℕ) → (has l.targets.items c || has (carried l.self.native l.self.versions (meaning item)) c) ≡ has l.targets.items c);
+}
