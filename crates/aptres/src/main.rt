@@ -7,18 +7,23 @@
 use apt_base::{FileShelf, StdinSource, StdoutSink};
 use resolve_cli::{Status, UsageFault, exit_number, fault_text, run_alone};
 use std::env;
+use std::io::ErrorKind;
 use std::process::ExitCode;
 
-// The words of the command line, if they can be had.
-fn words(rt: &HostRuntime) -> Option<Vec<String>> {
-    let args = env::args(rt).ok()?;
-    args.collect(rt.alloc()).ok()
+// The words of the command line. A word that is no text is not understood.
+fn words(rt: &HostRuntime) -> Result<Vec<String>, Status> {
+    match env::args(rt) {
+        Ok(args) => args.collect(rt.alloc()).map_err(|_| Status::NoMemory),
+        Err(error) if error.kind() == ErrorKind::OutOfMemory => Err(Status::NoMemory),
+        Err(_) => Err(Status::Usage(UsageFault::Words)),
+    }
 }
 
 // Runs over the real things.
 fn run(rt: &HostRuntime) -> Status {
-    let Some(words) = words(rt) else {
-        return Status::Usage(UsageFault::Words);
+    let words = match words(rt) {
+        Ok(words) => words,
+        Err(status) => return status,
     };
     let alloc = rt.alloc();
     let mut shelf = FileShelf::new(alloc, rt);
@@ -28,14 +33,19 @@ fn run(rt: &HostRuntime) -> Status {
     report.status
 }
 
-// Writes the line that tells a fault.
-fn tell(rt: &HostRuntime, status: &Status) {
+// The line that tells a fault, where there is memory for it.
+fn fault_line(rt: &HostRuntime, status: &Status) -> Option<String> {
     let mut line = Vec::new(rt.alloc());
-    if fault_text(status, &mut line).is_ok() {
-        if let Ok(text) = str::from_utf8(line.as_slice()) {
-            let _ = eprint!(rt; "{text}");
-        }
-    }
+    fault_text(status, &mut line).ok()?;
+    String::from_utf8(line).ok()
+}
+
+// Writes the line that tells a fault. Where there is no memory for it, the line says so, which takes none.
+fn tell(rt: &HostRuntime, status: &Status) {
+    let _ = match fault_line(rt, status) {
+        Some(line) => eprint!(rt; "{line}"),
+        None => eprint!(rt; "aptres: no memory\n"),
+    };
 }
 
 fn main(rt: HostRuntime) -> ExitCode {

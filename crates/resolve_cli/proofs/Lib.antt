@@ -1,3 +1,5 @@
+pub mod Accepted
+pub mod Beginning
 pub mod Complete
-pub mod Refusals
 pub mod Sure
+pub mod Enumerated

@@ -1,7 +1,6 @@
 pub mod Words
-pub mod Grounds
-pub mod Building
-pub mod Causes
+pub mod Beginnings
 pub mod Reports
-pub mod Faults
+pub mod Completeness
 pub mod Sureness
+pub mod Enumeration

@@ -1,18 +1,17 @@
 -- Objects that are sure not to fail.
-use Rattle.std.specs.Prelude.{◌≡◌, ◌≤◌, ℕ, List, length, Option, Some, IsSome, IsTrue}
+use Rattle.std.specs.Prelude.{◌≤◌, ℕ, List, length, IsSome, IsTrue}
 use Rattle.std.specs.Option.{IsSomeAnd}
 use Rattle.apt_base.specs.Bytes.{SinkState}
 use Rattle.apt_base.specs.Files.{told_file}
-use Rattle.resolve_cli.specs.Words.{Names, names_in}
+use Rattle.clap.specs.Words.{Text}
+use Rattle.lists.specs.Members.{Member}
 use Rattle.resolve_cli.specs.Reports.{World}
+use Rattle.resolve_cli.specs.Words.{names_in}
 
--- The shelf is sure and has the two files that the words name, and the input is sure.
-pub record IsSure (words : List (List ℕ)) (old : World) : Type 0 where
-  pub names : Names
-  pub named : names_in words ≡ Some names
+-- The shelf is sure and has the files that the words ask for, and the input is sure.
+pub record IsSure (words : List Text) (old : World) : Type 0 where
   pub shelf : IsTrue old.shelf.sure
-  pub status_there : IsSome (told_file old.shelf.files names.status)
-  pub packages_there : IsSome (told_file old.shelf.files names.packages)
+  pub there : (name : List ℕ) → Member name (names_in words) → IsSome (told_file old.shelf.files name)
   pub input : IsTrue old.input.sure
 
 -- a sink's room is full

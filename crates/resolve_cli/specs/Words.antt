@@ -1,14 +1,17 @@
--- The words of the command line.
-use Rattle.std.specs.Prelude.{ℕ, Bool, ◌&&◌, List, [], ◌∷◌, Option, Some, None, if◌then◌else◌, codes}
-use Rattle.std.specs.Str.{bytes_eq}
+-- What the words of the command line give, where the program takes them.
+use Rattle.std.specs.Prelude.{ℕ, Bool, ◌&&◌, List, [], if◌then◌else◌}
+use Rattle.clap.specs.Words.{Text}
+use Rattle.resolve_words.specs.Given.{Given, given, are_understood, is_taken}
+use Rattle.resolve_words.specs.ProgramCommand.{rows}
+use Rattle.sources.specs.Sources.{names_of}
 
--- The names of the two files.
-pub record Names : Type 0 where
-  pub status : List ℕ
-  pub packages : List ℕ
+-- the command takes the words, and nothing that they give is refused
+abbrev pub is_accepted : List Text → Bool
+is_accepted words = are_understood words && is_taken (rows words)
 
--- After the program's name come `--status` with the name of the status file and `--packages` with that of the index.
-abbrev pub names_in : List (List ℕ) → Option Names
-names_in (program ∷ first ∷ status ∷ second ∷ packages ∷ []) =
-    if bytes_eq first (codes "--status") && bytes_eq second (codes "--packages") then Some (record { status = status; packages = packages }) else None
-names_in _ = None
+abbrev pub settings_in : List Text → Given
+settings_in words = given (rows words)
+
+-- the names of the files that the words ask for, in their order
+abbrev pub names_in : List Text → List (List ℕ)
+names_in words = if is_accepted words then names_of (settings_in words) else []

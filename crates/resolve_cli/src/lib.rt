@@ -1,15 +1,15 @@
-//! The resolver's program: two files in, and a dialogue over the repairs of what is broken.
-//!
-//! `run_alone` is all that the program does; the program itself only hands it the real files, input and output.
+//! All that the program does: from the words of its command line to a report, over a shelf of files, an input and an output. The
+//! program itself only makes the real ones. What a run promises stands in `specs/Reports.antt`, and why it ends before its session
+//! in `specs/Beginnings.antt`.
 #![tactic(auto)]
 
-mod faults;
-mod ground;
-mod reading;
+mod prepared;
+mod preparing;
 mod run;
-#[cfg(test)]
-mod tests;
 
-pub use faults::{exit_number, fault_text};
-pub use plain_talk::{FileKind, InputKind, Status, UsageFault, Which};
+pub use prepared::Prepared;
+pub use preparing::prepare;
 pub use run::{Report, deliveries_are_minimal, run_alone};
+pub use run_status::{
+    FileKind, InputKind, NoMemory, Status, UsageFault, Which, exit_number, fault_text,
+};

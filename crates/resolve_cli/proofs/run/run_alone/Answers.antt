@@ -1,32 +1,55 @@
-use Rattle.std.proofs.Common.{map, string_bytes}
-use Rattle.resolve_cli.specs.Reports.{World}
-use Rattle.resolve_cli.proofs.Complete.{refusal_ends}
-use Rattle.resolve_cli.proofs.Sure.{no_read_fault_before, no_read_fault_in, no_write_fault_before, full_at_fault}
+use Rattle.std.proofs.Common.{map, string_bytes, refl}
+use Rattle.resolve_cli.specs.Reports.{World, world}
+use Rattle.resolve_cli.proofs.Beginning.{run_by, refused_by}
+use Rattle.resolve_cli.proofs.Complete.{run_ends}
+use Rattle.resolve_cli.proofs.Sure.{no_read_fault, full_at_fault}
 use Rattle.resolve_cli.proofs.run.run_alone.Goals as goal
 
-pub returns-in-Err-clause-complete : goal.returns-in-Err-clause-complete
-returns-in-Err-clause-complete g c w = refusal_ends _ _ _ c.in-Err.status w c.in-Err.ensures.prepared
+pub returns-in-Ok-clause-run : goal.returns-in-Ok-clause-run
+returns-in-Ok-clause-run g c =
+    let old : World = world (g.F.Shelf.state c.args.shelf.now) (g.I.Source.state c.args.input.now) (g.O.Sink.state c.args.out.now) in
+    let new : World = world (g.F.Shelf.state c.prepare.new.shelf) (g.I.Source.state c.speak_over.new.input) (g.O.Sink.state c.speak_over.new.out) in
+    run_by (map string_bytes c.args.words.now) old new c.in-Ok.prepared c.speak_over.result c.in-Ok.ensures.prepared c.speak_over.ensures
 
-pub returns-in-Err-clause-sure : goal.returns-in-Err-clause-sure
-returns-in-Err-clause-sure g c s e =
-    let old : World = record { shelf = g.F.Shelf.state c.args.shelf.now; input = g.I.Source.state c.args.input.now; out = g.O.Sink.state c.args.out.now } in
-    no_read_fault_before (map string_bytes c.args.words.now) old (g.F.Shelf.state c.prepare.new.shelf) c.in-Err.status s c.in-Err.ensures.kept (g.met.F.Shelf.is_state c.prepare.new.shelf) c.in-Err.ensures.prepared e
-
-pub returns-in-Err-clause-full : goal.returns-in-Err-clause-full
-returns-in-Err-clause-full g c room e =
-    let old : World = record { shelf = g.F.Shelf.state c.args.shelf.now; input = g.I.Source.state c.args.input.now; out = g.O.Sink.state c.args.out.now } in
-    absurd (no_write_fault_before (map string_bytes c.args.words.now) old (g.F.Shelf.state c.prepare.new.shelf) c.in-Err.status c.in-Err.ensures.prepared e)
+pub returns-in-Ok-clause-complete : goal.returns-in-Ok-clause-complete
+returns-in-Ok-clause-complete g c w =
+    let old : World = world (g.F.Shelf.state c.args.shelf.now) (g.I.Source.state c.args.input.now) (g.O.Sink.state c.args.out.now) in
+    let new : World = world (g.F.Shelf.state c.prepare.new.shelf) (g.I.Source.state c.speak_over.new.input) (g.O.Sink.state c.speak_over.new.out) in
+    run_ends (map string_bytes c.args.words.now) old new c.speak_over.result (returns-in-Ok-clause-run g c) w
 
 pub returns-in-Ok-clause-sure : goal.returns-in-Ok-clause-sure
 returns-in-Ok-clause-sure g c s e =
-    let input = g.I.Source.state in
-    let out = g.O.Sink.state in
-    no_read_fault_in (input c.args.input.now).left (input c.args.input.now) (input c.speak.new.input) (out c.args.out.now).faults (out c.speak.new.out).faults c.speak.result.history.items c.speak.result.status
-    s.input c.speak.ensures.sure (g.met.I.Source.is_state c.speak.new.input) c.speak.ensures.spoken.over.cause e
+    let old : World = world (g.F.Shelf.state c.args.shelf.now) (g.I.Source.state c.args.input.now) (g.O.Sink.state c.args.out.now) in
+    let new : World = world (g.F.Shelf.state c.prepare.new.shelf) (g.I.Source.state c.speak_over.new.input) (g.O.Sink.state c.speak_over.new.out) in
+    no_read_fault (map string_bytes c.args.words.now) old new c.speak_over.result s c.in-Ok.ensures.kept (g.met.F.Shelf.is_state c.prepare.new.shelf) (g.met.I.Source.is_state c.speak_over.new.input) (returns-in-Ok-clause-run g c) e
 
 pub returns-in-Ok-clause-full : goal.returns-in-Ok-clause-full
-returns-in-Ok-clause-full g c room e =
-    let input = g.I.Source.state in
-    let out = g.O.Sink.state in
-    full_at_fault (input c.args.input.now).left (input c.args.input.now).faults (input c.speak.new.input).faults (out c.args.out.now) (out c.speak.new.out) c.speak.result.history.items c.speak.result.status
-    room c.speak.ensures.room (g.met.O.Sink.is_state c.speak.new.out) c.speak.ensures.spoken.over.cause e
+returns-in-Ok-clause-full g c there e =
+    let old : World = world (g.F.Shelf.state c.args.shelf.now) (g.I.Source.state c.args.input.now) (g.O.Sink.state c.args.out.now) in
+    let new : World = world (g.F.Shelf.state c.prepare.new.shelf) (g.I.Source.state c.speak_over.new.input) (g.O.Sink.state c.speak_over.new.out) in
+    full_at_fault (map string_bytes c.args.words.now) old new c.speak_over.result there (g.met.O.Sink.is_state c.speak_over.new.out) (returns-in-Ok-clause-run g c) e
+
+pub returns-in-Err-clause-run : goal.returns-in-Err-clause-run
+returns-in-Err-clause-run g c =
+    let old : World = world (g.F.Shelf.state c.args.shelf.now) (g.I.Source.state c.args.input.now) (g.O.Sink.state c.args.out.now) in
+    let new : World = world (g.F.Shelf.state c.prepare.new.shelf) (g.I.Source.state c.args.input.now) (g.O.Sink.state c.args.out.now) in
+    let none = c.without_session.ensures in
+    refused_by (map string_bytes c.args.words.now) old new c.without_session.result c.in-Err.status none.status none.empty none.unread refl refl c.in-Err.ensures.prepared
+
+pub returns-in-Err-clause-complete : goal.returns-in-Err-clause-complete
+returns-in-Err-clause-complete g c w =
+    let old : World = world (g.F.Shelf.state c.args.shelf.now) (g.I.Source.state c.args.input.now) (g.O.Sink.state c.args.out.now) in
+    let new : World = world (g.F.Shelf.state c.prepare.new.shelf) (g.I.Source.state c.args.input.now) (g.O.Sink.state c.args.out.now) in
+    run_ends (map string_bytes c.args.words.now) old new c.without_session.result (returns-in-Err-clause-run g c) w
+
+pub returns-in-Err-clause-sure : goal.returns-in-Err-clause-sure
+returns-in-Err-clause-sure g c s e =
+    let old : World = world (g.F.Shelf.state c.args.shelf.now) (g.I.Source.state c.args.input.now) (g.O.Sink.state c.args.out.now) in
+    let new : World = world (g.F.Shelf.state c.prepare.new.shelf) (g.I.Source.state c.args.input.now) (g.O.Sink.state c.args.out.now) in
+    no_read_fault (map string_bytes c.args.words.now) old new c.without_session.result s c.in-Err.ensures.kept (g.met.F.Shelf.is_state c.prepare.new.shelf) (g.met.I.Source.is_state c.args.input.now) (returns-in-Err-clause-run g c) e
+
+pub returns-in-Err-clause-full : goal.returns-in-Err-clause-full
+returns-in-Err-clause-full g c there e =
+    let old : World = world (g.F.Shelf.state c.args.shelf.now) (g.I.Source.state c.args.input.now) (g.O.Sink.state c.args.out.now) in
+    let new : World = world (g.F.Shelf.state c.prepare.new.shelf) (g.I.Source.state c.args.input.now) (g.O.Sink.state c.args.out.now) in
+    full_at_fault (map string_bytes c.args.words.now) old new c.without_session.result there (g.met.O.Sink.is_state c.args.out.now) (returns-in-Err-clause-run g c) e

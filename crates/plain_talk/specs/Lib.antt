@@ -1,4 +1,0 @@
-pub mod Texts
-pub mod Ends
-pub mod Runs
-pub mod Turns
