@@ -5,4 +5,4 @@ mod Owned
 mod Built
 mod Making
 mod Whole
-mod FirstBytes
+pub mod FirstBytes

@@ -9,6 +9,7 @@ ghost use Rattle.universe_model.specs.Universes.{absent_in, problem_of};
 ghost use Rattle.wanted.specs.Wanting.{action_of, action_on, version_by, version_of_text, IsActionOf, IsVersionOf};
 
 use crate::Action;
+use bstr::ByteSlice;
 use deb_version::Version;
 use problem::Problem;
 use universe::Universe;
@@ -106,7 +107,7 @@ fn action_of_text(universe: &Universe, name: &[u8], text: &[u8]) -> Option<Actio
 fn equals_place(word: &[u8]) -> Option<usize>
     ensures { result ≡ position is_equals word.now }
 {
-    word.iter().position(|byte| *byte == b'=')
+    word.find_byte(b'=')
 }
 
 /// The action that a word is, if it is one.
