@@ -1,3 +1,4 @@
 pub mod Calls
 pub mod PassLists
 pub mod Closing
+pub mod Sent

@@ -1,0 +1,260 @@
+//! Search in threads: slices of steps through a pass of a shared session, and rounds, in which workers search while somebody
+//! talks.
+#![tactic(auto)]
+
+ghost use Rattle.std.specs.Prelude.{◌≡◌, ◌<◌, ℕ, length, All, slice_index_or, None, OnOk, OnErr};
+ghost use Rattle.std.specs.Borrow.{MutBor};
+ghost use Rattle.std.specs.Thread.{IsSync};
+ghost use Rattle.resolver_model.specs.Histories.{out_at};
+ghost use Rattle.search_core.specs.Sessions.{IsFor};
+ghost use Rattle.session_cell.specs.Passes.{IsPassOf, HasOut};
+ghost use Rattle.search_thread.specs.Slices.{CanWork, CanTalk, Talker, IsSame, IsWorked, IsTried, EndsAs, IsEndedBySplit, IsEndedByBack};
+
+use basis::Basis;
+use choice_set::NoMemory;
+use search_core::{Job, Taken, expand};
+use session_cell::{Pass, SessionCell};
+use std::alloc::Global;
+use std::sync::Wait;
+use std::thread;
+use std::thread::{Threads, join_mut};
+
+/// What a slice calls between a leaf that it takes and what it puts in the place of the leaf.
+pub trait Gate {
+    /// Called with the actor that has the leaf out.
+    fn between(&self, actor: u32);
+}
+
+/// The gate that does nothing.
+pub struct OpenGate;
+
+impl Gate for OpenGate {
+    fn between(&self, _actor: u32) {}
+}
+
+/// How a slice ended.
+#[derive(Debug, Drop, Clone, Copy, PartialEq, Eq)]
+pub enum SliceEnd {
+    /// All its steps were made: so many leaves were split.
+    Made(u64),
+    /// No leaf is wanted, and one is finished.
+    Ready,
+    /// Every leaf is shut.
+    Done,
+    /// A round was asked to stop: the greatest so far.
+    Stopped { value: u64 },
+    /// Every wanted leaf is with somebody; this is the first of them.
+    AllOut { leaf: u64 },
+    /// Memory was wanting.
+    NoMemory,
+}
+
+// What came of one try to search a leaf.
+#[derive(Debug, Drop, Clone, Copy, PartialEq, Eq)]
+enum Tried {
+    Split,
+    Ready,
+    Done,
+    AllOut { leaf: u64 },
+    NoMemory,
+}
+
+// Splits the leaf that is out, and puts its children in its place; where memory is wanting, gives it back.
+fn end_job<H: Wait>(
+    rt: &H,
+    alloc: Global,
+    cell: &SessionCell,
+    basis: &Basis,
+    pass: &mut Pass,
+    job: Job,
+) -> Result<(), NoMemory>
+    requires cell { IsPassOf cell.now pass.old }
+    requires basis { IsFor cell.now.start basis.now.problem basis.now.table }
+    requires job { HasOut pass.old job }
+    ensures pass { IsSame pass.old pass.new }
+    ensures stop { pass.new.stop ≡ pass.old.stop }
+    ensures done { OnOk result (IsEndedBySplit pass.old job.leaf pass.new) }
+    ensures undone { OnErr result (IsEndedByBack pass.old job.leaf pass.new) }
+{
+    let Ok(outcome) = expand(alloc, basis, &job) else {
+        cell.back(rt, pass, job);
+        return Err(NoMemory);
+    };
+    match cell.put(rt, alloc, basis, pass, job, outcome) {
+        Ok(()) => Ok(()),
+        Err(job) => {
+            cell.back(rt, pass, job);
+            Err(NoMemory)
+        }
+    }
+}
+
+// Takes a leaf and splits it, if one is free.
+fn search_one<H: Wait, G: Gate>(
+    rt: &H,
+    alloc: Global,
+    cell: &SessionCell,
+    basis: &Basis,
+    pass: &mut Pass,
+    gate: &G,
+) -> Tried
+    requires cell { IsPassOf cell.now pass.old }
+    requires basis { IsFor cell.now.start basis.now.problem basis.now.table }
+    requires idle { out_at pass.old.hand.actor pass.old.hand.made ≡ None }
+    ensures pass { IsSame pass.old pass.new }
+    ensures stop { pass.new.stop ≡ pass.old.stop }
+    ensures tried { IsTried pass.old pass.new result }
+{
+    match cell.take(rt, alloc, basis, pass) {
+        Ok(Taken::Work(job)) => {
+            gate.between(pass.actor());
+            match end_job(rt, alloc, cell, basis, pass, job) {
+                Ok(()) => Tried::Split,
+                Err(NoMemory) => Tried::NoMemory,
+            }
+        }
+        Ok(Taken::Ready { .. }) => Tried::Ready,
+        Ok(Taken::Done) => Tried::Done,
+        Ok(Taken::AllOut { leaf }) => Tried::AllOut { leaf },
+        Err(NoMemory) => Tried::NoMemory,
+    }
+}
+
+/// Searches: takes a leaf, splits it, puts its children in its place, and so on, up to `most` times. Before each leaf it looks
+/// whether this round or a later one was asked to stop. What it takes it puts, or gives back where memory is wanting.
+pub fn slice<H: Wait, G: Gate>(
+    rt: &H,
+    alloc: Global,
+    cell: &SessionCell,
+    basis: &Basis,
+    pass: &mut Pass,
+    gate: &G,
+    round: u64,
+    most: u64,
+) -> SliceEnd
+    requires cell { IsPassOf cell.now pass.old }
+    requires basis { IsFor cell.now.start basis.now.problem basis.now.table }
+    requires idle { out_at pass.old.hand.actor pass.old.hand.made ≡ None }
+    requires most { 0 < most }
+    ensures pass { IsSame pass.old pass.new }
+    ensures ended { EndsAs pass.old pass.new round most result }
+{
+    for _ in 0..most {
+        let asked = cell.stop_asked(pass);
+        if asked >= round {
+            return SliceEnd::Stopped { value: asked };
+        }
+        match search_one(rt, alloc, cell, basis, pass, gate) {
+            Tried::Split => {}
+            Tried::Ready => return SliceEnd::Ready,
+            Tried::Done => return SliceEnd::Done,
+            Tried::AllOut { leaf } => return SliceEnd::AllOut { leaf },
+            Tried::NoMemory => return SliceEnd::NoMemory,
+        }
+    }
+    SliceEnd::Made(most)
+}
+
+// A worker's part of a round: slices, until there is nothing more to do, or the round was asked to stop.
+fn work<H: Wait, G: Gate>(
+    rt: &H,
+    alloc: Global,
+    cell: &SessionCell,
+    basis: &Basis,
+    pass: &mut Pass,
+    gate: &G,
+    round: u64,
+)
+    requires work { CanWork cell.now pass.old }
+    requires basis { IsFor cell.now.start basis.now.problem basis.now.table }
+    ensures { IsWorked pass.old pass.new }
+{
+    for _ in rt.forever() {
+        match slice(rt, alloc, cell, basis, pass, gate, round, 64) {
+            SliceEnd::Made(_) => {}
+            SliceEnd::AllOut { .. } => {}
+            SliceEnd::Stopped { .. } => return,
+            SliceEnd::Ready => return,
+            SliceEnd::Done => return,
+            SliceEnd::NoMemory => return,
+        }
+    }
+}
+
+// Each worker searches, in as many threads.
+fn work_all<H: Threads + Wait + Sync, G: Gate + Sync>(
+    rt: &H,
+    alloc: Global,
+    cell: &SessionCell,
+    basis: &Basis,
+    workers: &mut [Pass],
+    gate: &G,
+    round: u64,
+)
+    requires workers { All (CanWork cell.now) workers.old }
+    requires basis { IsFor cell.now.start basis.now.problem basis.now.table }
+    ensures { (i : ℕ) (d : Talker) → i < length workers.old → IsWorked (slice_index_or workers.old i d) (slice_index_or workers.new i d) }
+{
+    let count = workers.len();
+    if count == 0 {
+        return;
+    }
+    thread::for_each_mut(
+        rt,
+        workers,
+        count,
+        &|_, pass| work(rt, alloc, cell, basis, pass, gate, round),
+    );
+}
+
+// Calls `talk` once, and then asks the round to stop.
+fn talk_and_stop<R, F: FnMut(&mut Pass) -> R>(
+    cell: &SessionCell,
+    talker: &mut Pass,
+    round: u64,
+    talk: &mut F,
+) -> R
+    requires talker { CanTalk cell.now round talker.old }
+    requires talk { (p : MutBor Talker) → p.now ≡ talker.old → F.pre talk.old p }
+    requires leaves { (p q : MutBor Talker) (r : R) (f : F) → p.now ≡ talker.old → F.step talk.old p r q f → CanTalk cell.now round q.now }
+    ensures { (p q : MutBor Talker) × (p.now ≡ talker.old) × F.step talk.old p result q talk.new × (talker.new ≡ record q.now { stop = round }) }
+{
+    let answer = talk(talker);
+    cell.ask_stop(talker, round);
+    answer
+}
+
+/// Calls `talk` once, on the talker, while each worker searches, and then asks the round to stop. The workers add no answer, and
+/// none of them has a leaf out afterwards. Where no thread can be made, one runs after the other.
+pub fn round<H: Threads + Wait + Sync, R: Send, F: FnMut(&mut Pass) -> R + Send, G: Gate + Sync>(
+    rt: &H,
+    alloc: Global,
+    cell: &SessionCell,
+    basis: &Basis,
+    talker: &mut Pass,
+    workers: &mut [Pass],
+    gate: &G,
+    round: u64,
+    talk: &mut F,
+) -> R
+    requires basis { IsFor cell.now.start basis.now.problem basis.now.table }
+    requires talker { CanTalk cell.now round talker.old }
+    requires workers { All (CanWork cell.now) workers.old }
+    requires talk { (p : MutBor Talker) → p.now ≡ talker.old → F.pre talk.old p }
+    requires leaves { (p q : MutBor Talker) (r : R) (f : F) → p.now ≡ talker.old → F.step talk.old p r q f → CanTalk cell.now round q.now }
+    ensures talked { (p q : MutBor Talker) × (p.now ≡ talker.old) × F.step talk.old p result q talk.new × (talker.new ≡ record q.now { stop = round }) }
+    ensures workers { (i : ℕ) (d : Talker) → i < length workers.old → IsWorked (slice_index_or workers.old i d) (slice_index_or workers.new i d) }
+{
+    let ((), answer) = join_mut(
+        rt,
+        &mut ||
+            requires { IsSync H.row × IsSync G.row × IsFor cell.now.start basis.now.problem basis.now.table × All (CanWork cell.now) workers.now }
+            ensures { (i : ℕ) (d : Talker) → i < length workers.entry.now → IsWorked (slice_index_or workers.entry.now i d) (slice_index_or workers.exit.now i d) }
+        { work_all(rt, alloc, cell, basis, workers, gate, round) },
+        &mut ||
+            requires { CanTalk cell.now round talker.now × ((p : MutBor Talker) → p.now ≡ talker.now → F.pre talk.now p) × ((p q : MutBor Talker) (r : R) (f : F) → p.now ≡ talker.now → F.step talk.now p r q f → CanTalk cell.now round q.now) }
+            ensures { (p q : MutBor Talker) × (p.now ≡ talker.entry.now) × F.step talk.entry.now p result q talk.exit.now × (talker.exit.now ≡ record q.now { stop = round }) }
+        { talk_and_stop(cell, talker, round, talk) },
+    );
+    answer
+}
