@@ -9,6 +9,7 @@ ghost use Rattle.control_file.specs.Text.{Line, paragraphs_of, cut, without_last
 ghost use Rattle.control_file.specs.Answers.{answer_of, behind_first, Reads, Leaves, is_paragraph_next};
 ghost use Rattle.control_file.specs.Fields.{field_text};
 ghost use Rattle.control_file.specs.Laws.{ParagraphsStandIn, FirstFaultIsFirst, AreRunsOf};
+ghost use Rattle.control_file.specs.Slots.{slot_of};
 ghost use Rattle.control_file.specs.Passes.{IsFirstLine, own_names, SkipsBlank, SkipsContinued, Scans, TakesField, at_line, faulty};
 
 use ascii::is_space;
@@ -176,11 +177,29 @@ fn trimmed_end(text: &[u8]) -> &[u8]
     &text[..len]
 }
 
-// The names of a paragraph's fields so far, in a room that each paragraph uses anew.
+// How many slots names are marked in.
+const SLOTS: usize = 8192;
+
+// The slot of a name, the same for names that differ only in ASCII case.
+fn slot(name: &[u8]) -> usize
+    ensures slot { result ≡ slot_of name.now }
+    ensures range { result < 8192 }
+{
+    let mut slot = 0;
+    for byte in name {
+        slot = (slot * 31 + usize::from(byte.to_ascii_lowercase())) % SLOTS;
+    }
+    slot
+}
+
+// The names of a paragraph's fields so far, in a room that each paragraph uses anew. The slot of each of them has the mark,
+// so that a name without it is none of them.
 #[derive(Drop)]
 struct Names<'a> {
     items: [&'a [u8]; MOST_FIELDS],
     len: usize,
+    marks: [u16; SLOTS],
+    mark: u16,
 }
 
 impl<'a> Model for Names<'a> {
@@ -190,7 +209,9 @@ impl<'a> Model for Names<'a> {
 
     ghost view = { λ names. map (λ name. name.now) (take names.len names.items) };
 
-    ghost invariant = { λ names. names.len ≤ 1024 };
+    ghost use Rattle.control_file.specs.Slots.{AreMarked};
+
+    ghost invariant = { λ names. (names.len ≤ 1024) × AreMarked names.marks names.mark (map (λ name. name.now) (take names.len names.items)) };
 }
 
 impl<'a> Names<'a> {
@@ -200,6 +221,8 @@ impl<'a> Names<'a> {
         Names {
             items: [&[]; MOST_FIELDS],
             len: 0,
+            marks: [0; SLOTS],
+            mark: 0,
         }
     }
 
@@ -207,6 +230,7 @@ impl<'a> Names<'a> {
         ensures { self.new ≡ [] }
     {
         self.len = 0;
+        self.mark = self.mark.wrapping_add(1);
     }
 
     fn len(&self) -> usize
@@ -219,6 +243,9 @@ impl<'a> Names<'a> {
     fn contains(&self, name: &[u8]) -> bool
         ensures { result ≡ is_among name.now self.now }
     {
+        if self.marks[slot(name)] != self.mark {
+            return false;
+        }
         is_any_same(&self.items[..self.len], name)
     }
 
@@ -228,6 +255,7 @@ impl<'a> Names<'a> {
     {
         self.items[self.len] = name;
         self.len += 1;
+        self.marks[slot(name)] = self.mark;
     }
 }
 
