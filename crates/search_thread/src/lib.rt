@@ -138,6 +138,7 @@ pub fn slice<H: Wait, G: Gate>(
     requires most { 0 < most }
     ensures pass { IsSame pass.old pass.new }
     ensures ended { EndsAs pass.old pass.new round most result }
+    ensures idle { out_at pass.new.hand.actor pass.new.hand.made ≡ None }
 {
     for _ in 0..most {
         let asked = cell.stop_asked(pass);
