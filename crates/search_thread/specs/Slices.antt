@@ -1,5 +1,6 @@
 -- What a slice of search does through its pass.
-use Rattle.std.specs.Prelude.{◌≡◌, ◌⊎◌, ◌*◌, ◌<◌, ◌≤◌, ℕ, List, [], ◌∷◌, ◌++◌, length, None, ⊤}
+use Rattle.std.specs.Prelude.{◌≡◌, ◌⊎◌, ◌*◌, ◌<◌, ◌≤◌, ℕ, List, [], ◌∷◌, ◌++◌, length, true, None, ⊤}
+use mathlib.Core.List.{IsPrefix}
 use Rattle.resolver_model.specs.declared.lines.Line.{Line}
 use Rattle.resolver_model.specs.declared.history.By.{By}
 use Rattle.resolver_model.specs.declared.history.Entry.TheVariants.{Take, Put, Back}
@@ -30,6 +31,11 @@ pub record IsSame (old new : Pass) : Type 0 where
   pub stops : new.stops ≡ old.stops
   pub start : new.hand.start ≡ old.hand.start
   pub actor : new.hand.actor ≡ old.hand.actor
+
+-- the pass has seen what it had seen, and room that is kept for an answer stays
+pub record IsOnward (old new : Pass) : Type 0 where
+  pub begins : IsPrefix old.hand.seen new.hand.seen
+  pub room : old.hand.reserved ≡ true → new.hand.reserved ≡ true
 
 -- The pass made so many pairs and then these entries, and has no job out.
 pub record IsSearched (old new : Hand) (pairs : ℕ) (rest : History) : Type 0 where

@@ -8,7 +8,7 @@ ghost use Rattle.std.specs.Thread.{IsSync};
 ghost use Rattle.resolver_model.specs.Histories.{out_at};
 ghost use Rattle.search_core.specs.Sessions.{IsFor};
 ghost use Rattle.session_cell.specs.Passes.{IsPassOf, HasOut};
-ghost use Rattle.search_thread.specs.Slices.{CanWork, CanTalk, Talker, IsSame, IsWorked, IsTried, EndsAs, IsEndedBySplit, IsEndedByBack};
+ghost use Rattle.search_thread.specs.Slices.{CanWork, CanTalk, Talker, IsSame, IsOnward, IsWorked, IsTried, EndsAs, IsEndedBySplit, IsEndedByBack};
 
 use basis::Basis;
 use choice_set::NoMemory;
@@ -49,13 +49,18 @@ pub enum SliceEnd {
     NoMemory,
 }
 
-// What came of one try to search a leaf.
+/// What came of one try to search a leaf.
 #[derive(Debug, Drop, Clone, Copy, PartialEq, Eq)]
-enum Tried {
+pub enum Tried {
+    /// A leaf was taken and split.
     Split,
+    /// No leaf is wanted, and one is finished.
     Ready,
+    /// Every leaf is shut.
     Done,
+    /// Every wanted leaf is with somebody; this is the first of them.
     AllOut { leaf: u64 },
+    /// Memory was wanting; what was taken is given back.
     NoMemory,
 }
 
@@ -73,6 +78,7 @@ fn end_job<H: Wait>(
     requires job { HasOut pass.old job }
     ensures pass { IsSame pass.old pass.new }
     ensures stop { pass.new.stop ≡ pass.old.stop }
+    ensures onward { IsOnward pass.old pass.new }
     ensures done { OnOk result (IsEndedBySplit pass.old job.leaf pass.new) }
     ensures undone { OnErr result (IsEndedByBack pass.old job.leaf pass.new) }
 {
@@ -89,8 +95,8 @@ fn end_job<H: Wait>(
     }
 }
 
-// Takes a leaf and splits it, if one is free.
-fn search_one<H: Wait, G: Gate>(
+/// Takes a leaf and splits it, if one is free. Room that is kept for an answer stays.
+pub fn search_one<H: Wait, G: Gate>(
     rt: &H,
     alloc: Global,
     cell: &SessionCell,
@@ -103,6 +109,7 @@ fn search_one<H: Wait, G: Gate>(
     requires idle { out_at pass.old.hand.actor pass.old.hand.made ≡ None }
     ensures pass { IsSame pass.old pass.new }
     ensures stop { pass.new.stop ≡ pass.old.stop }
+    ensures onward { IsOnward pass.old pass.new }
     ensures tried { IsTried pass.old pass.new result }
 {
     match cell.take(rt, alloc, basis, pass) {
@@ -138,7 +145,6 @@ pub fn slice<H: Wait, G: Gate>(
     requires most { 0 < most }
     ensures pass { IsSame pass.old pass.new }
     ensures ended { EndsAs pass.old pass.new round most result }
-    ensures idle { out_at pass.new.hand.actor pass.new.hand.made ≡ None }
 {
     for _ in 0..most {
         let asked = cell.stop_asked(pass);
