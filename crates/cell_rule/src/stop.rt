@@ -1,11 +1,20 @@
 //! The table of the stop word, which has no slot. The seat of actor 0 is marked: it alone sets the word.
-use atomic_table::{Play, Seat, Split, Table, TableRule};
+use atomic_table::{Join, Play, Seat, Split, Table, TableRule};
 use std::alloc::Global;
+use std::collections::LinkedList;
 
-/// The greatest round that a seat set or loaded, and whether it is the seat of actor 0. No value of it is made.
-pub struct StopView {
+/// Of one actor: the greatest round that it set or loaded, and whether it is actor 0. No value of it is made.
+pub struct StopHand {
     pub value: u64,
     pub marked: bool,
+}
+
+/// What a seat knows of its own actor, and of those whose seats were joined into it. No value of it is made.
+pub struct StopView {
+    pub own: StopHand,
+    pub joined: LinkedList<StopHand>,
+    /// Its hands were joined into another's.
+    pub spent: bool,
 }
 
 /// The rule of the table.
@@ -47,7 +56,18 @@ impl Split<StopView> for Tell {
 
     ghost left = { λ v. v };
 
-    ghost right = { λ v. stop_view v.value false };
+    ghost right = { λ v. stop_view v.own.value false };
+}
+
+/// A seat stands for another's actor too.
+pub struct Unite;
+
+impl Join<StopView> for Unite {
+    ghost use Rattle.cell_rule.specs.Stops.{both_stops, spent_stop};
+
+    ghost both = { both_stops };
+
+    ghost spent = { spent_stop };
 }
 
 pub type StopTable = Table<(), StopView, (), Stops, Global>;

@@ -1,5 +1,5 @@
 -- What contracts see of a shared session and its passes.
-use Rattle.std.specs.Prelude.{◌≡◌, ℕ, zero, suc, true, List, [], ◌∷◌, ◌++◌, ◌<◌, ⊤}
+use Rattle.std.specs.Prelude.{◌≤◌, ◌==◌, ◌≡◌, ℕ, zero, suc, true, List, [], ◌∷◌, ◌++◌, ◌<◌, ⊤}
 use mathlib.Core.List.{IsPrefix}
 use Rattle.atomic_table.specs.Seated.{TableId}
 use Rattle.resolver_model.specs.Histories.{History}
@@ -10,6 +10,8 @@ use Rattle.search_core.specs.declared.jobs.Job.{Job}
 use Rattle.search_core.specs.declared.jobs.Taken.{Taken}
 use Rattle.search_core.specs.declared.jobs.Taken.TheVariants.{Work}
 use Rattle.cell_rule.specs.declared.view.Hand.{Hand}
+use Rattle.cell_rule.specs.declared.stop.StopHand.{StopHand}
+use Rattle.cell_rule.specs.Stops.{stop_hand}
 use Rattle.cell_rule.specs.Views.{newcomer, stands, entries_by}
 
 -- which tables it has, and the session at the start
@@ -77,6 +79,19 @@ ArePassesOf cell (p ∷ ps) = IsPassOf cell p × ArePassesOf cell ps
 abbrev pub AreOfTable : TableId → List Pass → Type 0
 AreOfTable table [] = ⊤
 AreOfTable table (p ∷ ps) = (p.table ≡ table) × AreOfTable table ps
+
+abbrev pub AreOfStops : TableId → List Pass → Type 0
+AreOfStops stops [] = ⊤
+AreOfStops stops (p ∷ ps) = (p.stops ≡ stops) × AreOfStops stops ps
+
+abbrev pub stop_hands_of : List Pass → List StopHand
+stop_hands_of [] = []
+stop_hands_of (p ∷ ps) = stop_hand p.stop (p.hand.actor == 0) ∷ stop_hands_of ps
+
+-- No pass saw a later round asked to stop than this one, which is the last that the pass of actor 0 asked.
+abbrev pub AreStops : ℕ → List Pass → Type 0
+AreStops asked [] = ⊤
+AreStops asked (p ∷ ps) = (p.stop ≤ asked) × (p.hand.actor ≡ 0 → p.stop ≡ asked) × AreStops asked ps
 
 -- each actor has one of the passes
 abbrev pub HasAll : ℕ → List Pass → Type 0

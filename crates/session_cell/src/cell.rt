@@ -1,18 +1,18 @@
 // The shared session.
-ghost use Rattle.std.specs.Prelude.{◌≡◌, ◌<◌, ◌≤◌, ◌∷◌, [], true, IfOk, IfErr, OnOk, OnErr, IsTrue, IsOk, vec_len, None, ⊤};
+ghost use Rattle.std.specs.Prelude.{◌≡◌, ◌<◌, ◌≤◌, ◌∷◌, [], ℕ, true, IfOk, IfErr, OnOk, OnErr, IsTrue, IsOk, vec_len, None, ⊤};
 ghost use Rattle.resolver_model.specs.Histories.{History, out_at};
 ghost use Rattle.resolver_model.specs.Answers.{NamesChoice};
 ghost use Rattle.search_core.specs.Jobs.{outcome_of};
 ghost use Rattle.search_core.specs.Sessions.{IsFor, IsTaken, IsAnswer, needs_no_memory};
 ghost use Rattle.cell_rule.specs.Views.{Each};
 ghost use Rattle.session_cell.specs.Calls.{taken, said, ArePut, given_back};
-ghost use Rattle.session_cell.specs.Passes.{IsPassOf, IsTurn, HasOut, HasTaken, passes_below, hands_of, ArePassesOf, HasAll, Holds};
+ghost use Rattle.session_cell.specs.Passes.{IsPassOf, IsTurn, HasOut, HasTaken, passes_below, hands_of, ArePassesOf, HasAll, Holds, AreStops};
 
 use crate::inside::{
     answer_inside, back_inside, enter, leave, put_inside, reserve_inside, take_inside,
 };
 use crate::pass::{Pass, deal, gather, lay, release_first};
-use crate::stopping::{lay_stop, load_stop, set_stop};
+use crate::stopping::{close_stop, lay_stop, load_stop, set_stop};
 use basis::Basis;
 use cell_rule::rule::TurnTable;
 use cell_rule::stop::StopTable;
@@ -38,7 +38,7 @@ impl Model for SessionCell {
 
     ghost view = { λ c. record { table = c.turn.shared.table_id; stops = c.stop.shared.table_id; start = c.turn.shared.key.value } };
 
-    ghost invariant = { λ c. (c.turn.shared.table_id.words ≡ 1) × (c.turn.shared.table_id.slots ≡ 1) × (c.stop.shared.table_id.words ≡ 1) };
+    ghost invariant = { λ c. (c.turn.shared.table_id.words ≡ 1) × (c.turn.shared.table_id.slots ≡ 1) × (c.stop.shared.table_id.words ≡ 1) × (c.stop.shared.table_id.slots ≡ 0) };
 }
 
 impl SessionCell {
@@ -72,23 +72,25 @@ impl SessionCell {
     }
 
     /// Gives the session back for the passes of all actors. Its history begins with what each of them has seen, and has of each
-    /// actor just what its pass made.
+    /// actor just what its pass made. No pass saw a later round asked to stop than the last one that the pass of actor 0 asked.
     pub fn close(self, mut passes: Vec<Pass>) -> Session
         requires passes { ArePassesOf self passes.items }
         requires all { HasAll self.start.setting.actors passes.items × (0 < vec_len passes) }
         ensures setting { result.setting ≡ self.start.setting }
         ensures hands { Each (Holds result.history) (hands_of passes.items) }
+        ensures stops { (asked : ℕ) × AreStops asked passes.items }
     {
-        let SessionCell { turn, stop: _ } = self;
+        let SessionCell { turn, stop } = self;
         let Some(last) = passes.pop() else {
             unreachable!()
         };
         let Pass {
             actor: _,
             mut seat,
-            stop: _,
+            stop: mut stop_seat,
         } = last;
-        gather(&turn, &mut seat, &mut passes);
+        gather(&turn, &stop, &mut seat, &mut stop_seat, &mut passes);
+        close_stop(stop, stop_seat);
         let mut closed = turn.close_with(seat);
         let session = closed.take(0);
         closed.free();

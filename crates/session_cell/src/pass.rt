@@ -2,11 +2,12 @@
 ghost use Rattle.std.specs.Prelude.{◌≡◌, ◌+◌, ◌-◌, ◌*◌, ◌^◌, ◌<◌, ◌≤◌, ◌++◌, ◌∷◌, [], List, length, true, IfOk, vec_len, vec_capacity};
 ghost use Rattle.cell_rule.specs.declared.view.Hand.{Hand};
 ghost use Rattle.cell_rule.specs.Views.{first_view, opening, waiting, gathered, newcomer};
-ghost use Rattle.cell_rule.specs.Stops.{stop_view};
-ghost use Rattle.session_cell.specs.Passes.{passes_from_one, hands_of, AreOfTable};
+ghost use Rattle.cell_rule.specs.Stops.{stop_view, stop_gathered};
+ghost use Rattle.cell_rule.specs.declared.stop.StopHand.{StopHand};
+ghost use Rattle.session_cell.specs.Passes.{passes_from_one, hands_of, stop_hands_of, AreOfTable, AreOfStops};
 
 use crate::inside::count_entries;
-use crate::stopping::split_stop;
+use crate::stopping::{split_stop, unite_stop};
 use atomic_table::Refused;
 use cell_rule::rule::{Deal, Gather, Open, TurnSeat, TurnTable};
 use cell_rule::stop::{StopSeat, StopTable};
@@ -26,15 +27,16 @@ pub struct Pass {
 }
 
 impl Model for Pass {
-    ghost use Rattle.std.specs.Prelude.{◌≡◌, [], true};
+    ghost use Rattle.std.specs.Prelude.{◌≡◌, ◌==◌, []};
+    ghost use Rattle.cell_rule.specs.Stops.{stop_view};
     ghost use Rattle.cell_rule.specs.Views.{waiting, entries_by};
     ghost use Rattle.session_cell.specs.Passes as model;
 
     ghost Value = { model.Pass };
 
-    ghost view = { λ p. record { table = p.seat.table_id; stops = p.stop.table_id; hand = p.seat.me.0.own; stop = p.stop.me.0.value } };
+    ghost view = { λ p. record { table = p.seat.table_id; stops = p.stop.table_id; hand = p.seat.me.0.own; stop = p.stop.me.0.own.value } };
 
-    ghost invariant = { λ p. (p.seat.me ≡ (waiting p.seat.me.0.own, [])) × (p.actor ≡ p.seat.me.0.own.actor) × (p.actor ≡ 0 → p.stop.me.0.marked ≡ true) × (p.seat.me.0.own.made ≡ entries_by p.seat.me.0.own.actor p.seat.me.0.own.seen) };
+    ghost invariant = { λ p. (p.seat.me ≡ (waiting p.seat.me.0.own, [])) × (p.actor ≡ p.seat.me.0.own.actor) × (p.stop.me ≡ (stop_view p.stop.me.0.own.value (p.seat.me.0.own.actor == 0), [])) × (p.seat.me.0.own.made ≡ entries_by p.seat.me.0.own.actor p.seat.me.0.own.seen) };
 }
 
 impl Pass {
@@ -77,21 +79,31 @@ pub(crate) fn release_first(turn: &TurnTable, seat: &mut TurnSeat, next: u32, co
     turn.shared.store::<Open>(seat, 0, 2 * count);
 }
 
-// Takes in the other seats.
-pub(crate) fn gather(turn: &TurnTable, seat: &mut TurnSeat, passes: &mut Vec<Pass>)
+// Takes in the other seats of both tables.
+pub(crate) fn gather(
+    turn: &TurnTable,
+    stop: &StopTable,
+    seat: &mut TurnSeat,
+    stop_seat: &mut StopSeat,
+    passes: &mut Vec<Pass>,
+)
     requires table { (seat.old.table_id ≡ turn.now.shared.table_id) × (turn.now.shared.table_id.words ≡ 1) }
     requires seat { seat.old.me ≡ (waiting seat.old.me.0.own, []) }
-    requires passes { AreOfTable turn.now.shared.table_id passes.old.items }
-    ensures table { seat.new.table_id ≡ seat.old.table_id }
+    requires passes { AreOfTable turn.now.shared.table_id passes.old.items × AreOfStops stop.now.shared.table_id passes.old.items }
+    requires stops { (stop_seat.old.table_id ≡ stop.now.shared.table_id) × (stop.now.shared.table_id.words ≡ 1) }
+    requires stop_seat { stop_seat.old.me ≡ (stop_gathered stop_seat.old.me.0.own [], []) }
+    ensures table { (seat.new.table_id ≡ seat.old.table_id) × (stop_seat.new.table_id ≡ stop_seat.old.table_id) }
+    ensures stops { (h : StopHand) × (js : List StopHand) × (stop_seat.new.me ≡ (stop_gathered h js, [])) × (stop_hands_of passes.old.items ++ stop_seat.old.me.0.own ∷ [] ≡ h ∷ js) }
     ensures seat { (h : Hand) × (js : List Hand) × (seat.new.me ≡ (gathered h js, [])) × (hands_of passes.old.items ++ seat.old.me.0.own ∷ [] ≡ h ∷ js) }
 {
     while let Some(pass) = passes.pop() {
         let Pass {
             actor: _,
             seat: other,
-            stop: _,
+            stop: other_stop,
         } = pass;
         turn.shared.join_seat::<Gather>(seat, other);
+        unite_stop(stop, stop_seat, other_stop);
     }
 }
 
