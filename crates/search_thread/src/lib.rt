@@ -231,9 +231,9 @@ fn talk_and_stop<R, F: FnMut(&mut Pass) -> R>(
     answer
 }
 
-/// Calls `talk` once, on the talker, while each worker searches, and then asks the round to stop. The workers add no answer, and
-/// none of them has a leaf out afterwards. Where no thread can be made, one runs after the other.
-pub fn round<H: Threads + Wait + Sync, R: Send, F: FnMut(&mut Pass) -> R + Send, G: Gate + Sync>(
+/// Calls `talk` once, on the talker and on this thread, while each worker searches, and then asks the round to stop. The workers add
+/// no answer, and none of them has a leaf out afterwards. Where no thread can be made, one runs after the other.
+pub fn round_here<H: Threads + Wait + Sync, R, F: FnMut(&mut Pass) -> R, G: Gate + Sync>(
     rt: &H,
     alloc: Global,
     cell: &SessionCell,
@@ -264,4 +264,27 @@ pub fn round<H: Threads + Wait + Sync, R: Send, F: FnMut(&mut Pass) -> R + Send,
         { talk_and_stop(cell, talker, round, talk) },
     );
     answer
+}
+
+/// As `round_here`, for a `talk` that could go to another thread.
+pub fn round<H: Threads + Wait + Sync, R: Send, F: FnMut(&mut Pass) -> R + Send, G: Gate + Sync>(
+    rt: &H,
+    alloc: Global,
+    cell: &SessionCell,
+    basis: &Basis,
+    talker: &mut Pass,
+    workers: &mut [Pass],
+    gate: &G,
+    round: u64,
+    talk: &mut F,
+) -> R
+    requires basis { IsFor cell.now.start basis.now.problem basis.now.table }
+    requires talker { CanTalk cell.now round talker.old }
+    requires workers { All (CanWork cell.now) workers.old }
+    requires talk { (p : MutBor Talker) → p.now ≡ talker.old → F.pre talk.old p }
+    requires leaves { (p q : MutBor Talker) (r : R) (f : F) → p.now ≡ talker.old → F.step talk.old p r q f → CanTalk cell.now round q.now }
+    ensures talked { (p q : MutBor Talker) × (p.now ≡ talker.old) × F.step talk.old p result q talk.new × (talker.new ≡ record q.now { stop = round }) }
+    ensures workers { (i : ℕ) (d : Talker) → i < length workers.old → IsWorked (slice_index_or workers.old i d) (slice_index_or workers.new i d) }
+{
+    round_here(rt, alloc, cell, basis, talker, workers, gate, round, talk)
 }

@@ -8,7 +8,9 @@ mod saying;
 mod turns;
 
 use basis::Basis;
-pub use turns::converse;
+pub use hearing::hear;
+pub use saying::{end_of, say_greeting, say_prompt, say_reply};
+pub use turns::{MOST_LINES, Place, begin, converse};
 use universe::Universe;
 
 /// What lines and texts speak of: a universe, and the problem and the costs of a search.

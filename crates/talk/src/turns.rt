@@ -22,13 +22,13 @@ use search_core::Session;
 use std::alloc::Global;
 
 /// The most lines that are answered.
-const MOST_LINES: u64 = 100_000;
+pub const MOST_LINES: u64 = 100_000;
 
-// Where the dialogue stands: the number of the shown solution, and how many were delivered.
+/// Where the dialogue stands: the number of the shown solution, and how many were delivered.
 #[derive(Clone, Copy)]
-struct Place {
-    cursor: u64,
-    deliveries: u64,
+pub struct Place {
+    pub cursor: u64,
+    pub deliveries: u64,
 }
 
 // Answers a command, and writes the reply. Where the run does not go on, it answers why.
@@ -149,8 +149,12 @@ fn last_turn<I: Source, O: Sink>(
     }
 }
 
-// Writes the greeting, and gives a reader of lines.
-fn begin<O: Sink>(alloc: Global, speaker: &Speaker<'_>, out: &mut O) -> Result<LineReader, Status>
+/// Writes the greeting, and gives a reader of lines.
+pub fn begin<O: Sink>(
+    alloc: Global,
+    speaker: &Speaker<'_>,
+    out: &mut O,
+) -> Result<LineReader, Status>
     ensures later { IsLaterSink (O.state out.old) (O.state out.new) }
     ensures begun { MatchResult result (λ reader. (reader ≡ []) × IsWritten (O.state out.old) (O.state out.new) (greeting speaker.now.basis.now.problem))
         (IsUnsaid (greeting speaker.now.basis.now.problem) (O.state out.old) (O.state out.new)) }

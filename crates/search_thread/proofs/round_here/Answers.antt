@@ -7,7 +7,7 @@ use Rattle.std.proofs.alloc.Global.TheSendSync as global
 use Rattle.basis.proofs.Basis.TheSendSync as basis
 use Rattle.session_cell.specs.contracts.pass.Pass as pass
 use Rattle.session_cell.proofs.Sent.{pass_send, cell_sync}
-use Rattle.search_thread.proofs.round.Goals as goal
+use Rattle.search_thread.proofs.round_here.Goals as goal
 
 pub join_mut-answer-requires-send-F : goal.join_mut-answer-requires-send-F
 join_mut-answer-requires-send-F g c κs within =

@@ -1,0 +1,3 @@
+pub mod Shared
+pub mod Turns
+pub mod Passes
