@@ -5,7 +5,8 @@
 #![tactic(auto)]
 
 use apt_base::{FileShelf, StdinSource, StdoutSink};
-use resolve_cli::{Status, UsageFault, exit_number, fault_text, run_alone};
+use resolve_cli::{Status, UsageFault, exit_number, fault_text, run_session};
+use search_thread::OpenGate;
 use std::env;
 use std::io::ErrorKind;
 use std::process::ExitCode;
@@ -17,20 +18,6 @@ fn words(rt: &HostRuntime) -> Result<Vec<String>, Status> {
         Err(error) if error.kind() == ErrorKind::OutOfMemory => Err(Status::NoMemory),
         Err(_) => Err(Status::Usage(UsageFault::Words)),
     }
-}
-
-// Runs over the real things.
-fn run(rt: &HostRuntime) -> Status {
-    let words = match words(rt) {
-        Ok(words) => words,
-        Err(status) => return status,
-    };
-    let alloc = rt.alloc();
-    let mut shelf = FileShelf::new(alloc, rt);
-    let mut input = StdinSource::new(rt);
-    let mut out = StdoutSink::new(rt);
-    let report = run_alone(alloc, words.as_slice(), &mut shelf, &mut input, &mut out);
-    report.status
 }
 
 // The line that tells a fault, where there is memory for it.
@@ -49,7 +36,24 @@ fn tell(rt: &HostRuntime, status: &Status) {
 }
 
 fn main(rt: HostRuntime) -> ExitCode {
-    let status = run(&rt);
+    let status = match words(&rt) {
+        Ok(words) => {
+            let mut shelf = FileShelf::new(rt.alloc(), &rt);
+            let mut input = StdinSource::new(&rt);
+            let mut out = StdoutSink::new(&rt);
+            run_session(
+                &rt,
+                rt.alloc(),
+                words.as_slice(),
+                &mut shelf,
+                &mut input,
+                &mut out,
+                &OpenGate,
+            )
+            .status
+        }
+        Err(status) => status,
+    };
     tell(&rt, &status);
     ExitCode::from(exit_number(&status))
 }

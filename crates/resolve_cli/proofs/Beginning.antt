@@ -59,14 +59,14 @@ prepared_by words s texts files p taken read stands slice workers =
 abbrev script_from : Universe → Problem → Table → Script
 script_from u p t = record { universe = u; problem = p; table = t }
 
-setting_is : (g : Given) (texts : Sources) (p : Prepared) → ground.IsGround g texts p.ground → p.slice ≡ g.slice → setting_by p ≡ setting_in g texts
+pub setting_is : (g : Given) (texts : Sources) (p : Prepared) → ground.IsGround g texts p.ground → p.slice ≡ g.slice → setting_by p ≡ setting_in g texts
 setting_is g texts p stands slice =
     ap (λ (q : Problem). setting_of q p.ground.basis.table p.ground.rules p.slice 1) stands.problem_is
     ∙ ap (λ (t : Table). setting_of (ground.problem_of g texts) t p.ground.rules p.slice 1) stands.table_is
     ∙ ap (λ (r : Rules). setting_of (ground.problem_of g texts) (ground.table_in g texts) r p.slice 1) stands.rules_are
     ∙ ap (λ (n : ℕ). setting_of (ground.problem_of g texts) (ground.table_in g texts) (ground.rules_in g texts) n 1) slice
 
-script_is : (g : Given) (texts : Sources) (p : Prepared) → ground.IsGround g texts p.ground → script_by p ≡ script_in g texts
+pub script_is : (g : Given) (texts : Sources) (p : Prepared) → ground.IsGround g texts p.ground → script_by p ≡ script_in g texts
 script_is g texts p stands =
     ap (λ (u : Universe). script_from u p.ground.basis.problem p.ground.basis.table) stands.universe_is
     ∙ ap (λ (q : Problem). script_from (ground.universe_of g texts) q p.ground.basis.table) stands.problem_is

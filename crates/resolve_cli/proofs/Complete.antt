@@ -12,6 +12,7 @@ use Rattle.resolve_cli.specs.Completeness.{AreLinesFit, IsThere, IsWellProvided,
 use Rattle.resolve_cli.specs.Reports.{World, scene_in, IsRun}
 use Rattle.resolve_cli.specs.Words.{is_accepted, settings_in, names_in}
 use Rattle.resolve_cli.specs.declared.run.Report.{Report}
+use Rattle.resolve_cli.proofs.Ended.{IsEndedBy, ended_alone}
 use Rattle.resolve_cli.proofs.Accepted.{names_are, not_refused}
 use Rattle.run_status.specs.declared.Status.{Status}
 use Rattle.run_status.specs.declared.Status.TheVariants.{Accepted, Ended, Usage, ReadFault, WriteFault, NoMemory, Limit}
@@ -85,9 +86,12 @@ end_ends old new bytes (Limit DialogueLines count) e fit r o h =
 end_ends old new bytes NoMemory e fit r o h = inr (inr refl)
 end_ends old new bytes status e fit r o h = absurd h
 
-pub run_ends : (words : List Text) (old new : World) (r : Report) → IsRun words old new r → IsWellProvided words old new → EndsWell r.status
-run_ends words old new r run w =
-    elim run as (λ _. EndsWell r.status) [
-      | inl refused ↦ refusal_ends words old new r.status w refused.cause
-      | inr d ↦ end_ends (scene_in old []) (scene_in new r.history.items) w.input r.status w.input_told w.lines w.input_sound w.out_sound d.spoken.over.cause
+pub ended_ends : (words : List Text) (old new : World) (status : Status) → IsEndedBy words old new status → IsWellProvided words old new → EndsWell status
+ended_ends words old new status ended w =
+    elim ended as (λ _. EndsWell status) [
+      | inl refused ↦ refusal_ends words old new status w refused
+      | inr d ↦ end_ends (scene_in old []) (scene_in new d.history) w.input status w.input_told w.lines w.input_sound w.out_sound d.cause
     ]
+
+pub run_ends : (words : List Text) (old new : World) (r : Report) → IsRun words old new r → IsWellProvided words old new → EndsWell r.status
+run_ends words old new r run w = ended_ends words old new r.status (ended_alone words old new r run) w

@@ -17,6 +17,7 @@ use Rattle.resolve_cli.specs.Reports.{World, scene_in, IsRun}
 use Rattle.resolve_cli.specs.Sureness.{IsSure, IsFull}
 use Rattle.resolve_cli.specs.Words.{settings_in, names_in}
 use Rattle.resolve_cli.specs.declared.run.Report.{Report}
+use Rattle.resolve_cli.proofs.Ended.{IsEndedBy, ended_alone}
 use Rattle.resolve_cli.proofs.Accepted.{names_are}
 use Rattle.problem.specs.declared.limits.Which.{Which}
 use Rattle.problem.specs.declared.limits.Which.TheVariants.{LevelAmount}
@@ -117,14 +118,17 @@ refusal_is_no_fault words old new s kept law cause =
 end_is_no_fault : (old new : SourceState) → IsTrue old.sure → new.sure ≡ old.sure → IsSourceState new → Rose old.faults new.faults → ⊥
 end_is_no_fault old new sure kept law rose = not_zero old.faults new.faults rose (law (kept ∙ sure))
 
-pub no_read_fault : (words : List Text) (old new : World) (r : Report) → IsSure words old → KeepsFiles old.shelf new.shelf → IsShelfState new.shelf → IsSourceState new.input → IsRun words old new r → r.status ≡ ReadFault → ⊥
-no_read_fault words old new r s kept shelf_law input_law run e =
+pub ended_no_read_fault : (words : List Text) (old new : World) (status : Status) → IsSure words old → KeepsFiles old.shelf new.shelf → IsShelfState new.shelf → IsSourceState new.input → IsEndedBy words old new status → status ≡ ReadFault → ⊥
+ended_no_read_fault words old new status s kept shelf_law input_law ended e =
     let R : Status → Type 0 = λ x. IsRefusal words old.shelf new.shelf x in
-    let E : Status → Type 0 = λ x. IsEnd (scene_in old []) (scene_in new r.history.items) x in
-    elim run as (λ _. ⊥) [
-      | inl refused ↦ refusal_is_no_fault words old new.shelf s kept shelf_law (subst R e refused.cause)
-      | inr d ↦ end_is_no_fault old.input new.input s.input d.spoken.over.input.sure input_law (subst E e d.spoken.over.cause)
+    elim ended as (λ _. ⊥) [
+      | inl refused ↦ refusal_is_no_fault words old new.shelf s kept shelf_law (subst R e refused)
+      | inr d ↦ let E : Status → Type 0 = λ x. IsEnd (scene_in old []) (scene_in new d.history) x in
+          end_is_no_fault old.input new.input s.input d.sure input_law (subst E e d.cause)
     ]
+
+pub no_read_fault : (words : List Text) (old new : World) (r : Report) → IsSure words old → KeepsFiles old.shelf new.shelf → IsShelfState new.shelf → IsSourceState new.input → IsRun words old new r → r.status ≡ ReadFault → ⊥
+no_read_fault words old new r s kept shelf_law input_law run e = ended_no_read_fault words old new r.status s kept shelf_law input_law (ended_alone words old new r run) e
 
 -- ---- a write fault, where the room is full
 
@@ -157,11 +161,14 @@ write_fault_in_words words old new cause =
     in_later : IsAtTexts words old new WriteFault ⊎ IsAtGround words old WriteFault → ⊥
     in_later later = elim later as (λ _. ⊥) [ inl h ↦ in_unread h.unread | inr h ↦ ground_of_text words old WriteFault h ]
 
-pub full_at_fault : (words : List Text) (old new : World) (r : Report) → IsSome old.out.room → IsSinkState new.out → IsRun words old new r → r.status ≡ WriteFault → IsFull new.out
-full_at_fault words old new r there law run e =
+pub ended_full : (words : List Text) (old new : World) (status : Status) → IsSome old.out.room → IsSinkState new.out → IsEndedBy words old new status → status ≡ WriteFault → IsFull new.out
+ended_full words old new status there law ended e =
     let R : Status → Type 0 = λ x. IsRefusal words old.shelf new.shelf x in
-    let E : Status → Type 0 = λ x. IsEnd (scene_in old []) (scene_in new r.history.items) x in
-    elim run as (λ _. IsFull new.out) [
-      | inl refused ↦ absurd (write_fault_in_words words old.shelf new.shelf (subst R e refused.cause))
-      | inr d ↦ end_is_full old.out new.out there d.spoken.over.out.room law (subst E e d.spoken.over.cause)
+    elim ended as (λ _. IsFull new.out) [
+      | inl refused ↦ absurd (write_fault_in_words words old.shelf new.shelf (subst R e refused))
+      | inr d ↦ let E : Status → Type 0 = λ x. IsEnd (scene_in old []) (scene_in new d.history) x in
+          end_is_full old.out new.out there d.room law (subst E e d.cause)
     ]
+
+pub full_at_fault : (words : List Text) (old new : World) (r : Report) → IsSome old.out.room → IsSinkState new.out → IsRun words old new r → r.status ≡ WriteFault → IsFull new.out
+full_at_fault words old new r there law run e = ended_full words old new r.status there law (ended_alone words old new r run) e

@@ -4,3 +4,4 @@ pub mod Reports
 pub mod Completeness
 pub mod Sureness
 pub mod Enumeration
+pub mod Beside

@@ -3,10 +3,12 @@
 //! in `specs/Beginnings.antt`.
 #![tactic(auto)]
 
+mod beside;
 mod prepared;
 mod preparing;
 mod run;
 
+pub use beside::{answers_are_free_of_schedule, run_session};
 pub use prepared::Prepared;
 pub use preparing::prepare;
 pub use run::{Report, deliveries_are_minimal, run_alone};

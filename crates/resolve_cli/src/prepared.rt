@@ -13,6 +13,7 @@ pub struct Prepared {
     pub ground: Ground,
     pub slice: u64,
     pub workers: u32,
+    pub ghost workers_to: { workers ≤ 16 },
     pub ghost beside: { IsProblemOf ground.universe ground.basis.problem },
     pub ghost begins: { (actors : ℕ) → 1 ≤ actors → MayBegin ground.basis.problem ground.basis.table ground.rules slice actors },
 }

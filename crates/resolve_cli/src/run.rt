@@ -35,7 +35,7 @@ pub struct Report {
 }
 
 // The report of a run that had no session.
-fn without_session(alloc: Global, status: Status) -> Report
+pub(crate) fn without_session(alloc: Global, status: Status) -> Report
     ensures status { result.status ≡ status }
     ensures empty { result.history.items ≡ [] }
     ensures unread { result.lines_read ≡ 0 }
@@ -74,7 +74,7 @@ fn speak<I: Source, O: Sink>(
 }
 
 // Speaks with the user, over what was prepared.
-fn speak_over<I: Source, O: Sink>(
+pub(crate) fn speak_over<I: Source, O: Sink>(
     alloc: Global,
     prepared: Prepared,
     input: &mut I,
