@@ -21,6 +21,8 @@ use case::{Case, read_bytes, read_case};
 use choice_set::NoMemory;
 use outcome::{Outcome, outcome_of};
 use std::rt::Files;
+use std::sync::Wait;
+use std::thread::Threads;
 use std::{fs, io};
 
 fn write_found(rt: &impl Print, name: &str, outcome: &Outcome) -> io::Result<()> {
@@ -43,9 +45,12 @@ fn compare<R: Files + AllocGlobal + Print>(
     }
 }
 
-fn run_case<R: Files + AllocGlobal + Print>(rt: &R, name: &str) -> io::Result<()> {
+fn run_case<R: Files + AllocGlobal + Print + Threads + Wait + Sync>(
+    rt: &R,
+    name: &str,
+) -> io::Result<()> {
     let case: Case = read_case(rt, name)?;
-    let found: Result<Outcome, NoMemory> = outcome_of(rt.alloc(), case);
+    let found: Result<Outcome, NoMemory> = outcome_of(rt, rt.alloc(), case);
     match found {
         Ok(outcome) => compare(rt, name, &outcome),
         Err(_) => println!(rt; "{name} has no memory"),
