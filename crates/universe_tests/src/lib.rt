@@ -1,4 +1,4 @@
-//! A happy path of each public call on the way from stanzas to a problem.
+//! A happy path of each public call on universes, their laws, and the actions over them.
 //!
 //! They stand here, and not beside the calls, since a crate that has tests is proved a second time for them.
 #![tactic(auto)]
@@ -9,15 +9,5 @@ mod actions;
 mod ends;
 #[cfg(test)]
 mod laws;
-#[cfg(test)]
-mod listed_stanzas;
-#[cfg(test)]
-mod listed_versions;
-#[cfg(test)]
-mod meetings;
-#[cfg(test)]
-mod parts;
-#[cfg(test)]
-mod requirements;
 #[cfg(test)]
 mod universes;
