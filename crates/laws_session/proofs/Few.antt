@@ -17,7 +17,7 @@ use Rattle.resolver_model.specs.Trees.{Leaf, Tree, root, branches, split, number
 use Rattle.resolver_model.specs.Histories.{History}
 use Rattle.resolver_model.specs.Answers.{Setting}
 use Rattle.resolver_model.specs.Legal.{CanSplit, Follows, IsLegal}
-use Rattle.resolver_model.proofs.Sublists.{has-choices}
+use Rattle.resolver_model.proofs.Choosing.{has-choices}
 use Rattle.std.specs.List.{fold}
 use Rattle.lists.proofs.Members.{Member}
 use Rattle.lists.proofs.Sums.{length-filter_fewer}

@@ -5,5 +5,6 @@ pub mod Resolving
 pub mod Merged
 pub mod Sets
 pub mod Installs
+pub mod Halving
 pub mod Listing
 pub mod Indexes

@@ -7,3 +7,4 @@ pub mod Touching
 pub mod Indexes
 pub mod Places
 pub mod Resolving
+pub mod Halving

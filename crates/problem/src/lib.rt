@@ -7,7 +7,7 @@
 #![tactic(auto)]
 
 ghost use Rattle.std.specs.Prelude.{vec_len, is_ok, if◌then◌else◌, ◌≡◌, ◌<◌, ◌≤◌, ◌+◌, ◌-◌, ◌^◌, ℕ, Bool, List, [], ◌∷◌, ◌++◌, length, slice_index, replicate, nat_lt, nat_le, ◌&&◌, true, IsTrue, IfOk, OnOk, OnErr, map};
-ghost use Rattle.std.specs.List.{list_all, list_any, find, count_by};
+ghost use Rattle.std.specs.List.{list_all, list_any, find, count_by, slice_get};
 ghost use Rattle.lists.specs.Sets.{is_rising};
 ghost use Rattle.problem.specs.Kinds.{kind_of};
 ghost use Rattle.problem.specs.Limits.{end_past, IsAnswer, IsWithinLimits, package_refusal, dependency_refusal, target_count};
@@ -15,6 +15,7 @@ ghost use Rattle.problem.specs.Builds.{no_packages, with_package, with_dependenc
 ghost use Rattle.problem.specs.Places.{absent_of, end_of, IsOneOfEach};
 ghost use Rattle.problem.specs.Touching.{deps_of, deps_on, touching, broken_at_start, is_unmet};
 ghost use Rattle.problem.specs.Indexes.{with_dep, without_dep};
+ghost use Rattle.problem.specs.Halving.{if_before};
 ghost use Rattle.problem.specs.Resolving.{is_free_install, free_targets, free_versions, leave_choices};
 ghost use Rattle.resolver_model.specs.Problems.{is_choice, choices, installs_of, version_count, package_count, dependency_count, package_of, start_of, dependency, is_choice_set, is_install, is_leave, changes, state, is_in_state, is_consistent, is_broken, is_open, is_nothing_open, is_solution, resolvers, IsWellFormed};
 
@@ -360,15 +361,17 @@ impl Problem {
         self.index.broken()
     }
 
-    // Whether one of the choices installs a version of the package.
+    // Whether one of the choices, which rise, installs a version of the package.
     fn any_installs(&self, items: &[u32], package: u32) -> bool
+        requires { IsTrue (is_rising items.now) }
         ensures { result ≡ list_any (installs_of self.now «package») items.now }
     {
         self.first_install(items, package).is_some()
     }
 
-    // The first of the choices that installs a version of the package.
+    // The first of the choices, which rise, that installs a version of the package.
     fn first_install(&self, items: &[u32], package: u32) -> Option<u32>
+        requires { IsTrue (is_rising items.now) }
         ensures { result ≡ find (installs_of self.now «package») items.now }
     {
         let _ = &self.owners;
@@ -442,7 +445,8 @@ impl Problem {
         for (place, choice) in items.iter().enumerate() {
             if *choice < self.versions() {
                 let package = self.package_of(*choice);
-                if self.any_installs(&items[place + 1..], package) {
+                let (_, later) = items.split_at(place + 1);
+                if self.any_installs(later, package) {
                     return false;
                 }
             }
@@ -603,14 +607,36 @@ impl Model for Builder {
     ghost view = { λ b. b.problem };
 }
 
-// The first of the numbers from `first` to before `end`.
+// How many of the numbers are below `first`. It looks at all of them, several at a time.
+fn count_below(numbers: &[u32], first: u32) -> usize
+    ensures { result ≡ count_by (λ n. nat_lt n first) numbers.now }
+{
+    let mut count = 0;
+    for number in numbers {
+        if *number < first {
+            count += 1;
+        }
+    }
+    count
+}
+
+// The first of the numbers, which rise, from `first` to before `end`.
 fn first_within(numbers: &[u32], first: u32, end: u32) -> Option<u32>
+    requires { IsTrue (is_rising numbers.now) }
     ensures { result ≡ find (λ n. nat_le first n && nat_lt n end) numbers.now }
 {
-    numbers
-        .iter()
-        .copied()
-        .find(|number| first <= *number && *number < end)
+    if_before(numbers, count_below(numbers, first), end)
+}
+
+// The number at a place, if there is one and it is before the end.
+fn if_before(numbers: &[u32], place: usize, end: u32) -> Option<u32>
+    ensures { result ≡ if_before end (slice_get numbers.now place) }
+{
+    if place >= numbers.len() {
+        return None;
+    }
+    let number = numbers[place];
+    if number < end { Some(number) } else { None }
 }
 
 // The end of a call whose count would exceed the most that there may be.

@@ -33,8 +33,6 @@ pub enum Which {
     LineBytes,
     /// The lines of a dialogue.
     DialogueLines,
-    /// The choices of a problem.
-    Choices,
 }
 
 /// Why a call that makes a part of a problem stopped.

@@ -12,7 +12,7 @@ use Rattle.universe_model.specs.declared.InputKind.TheVariants.{Ctl, Stanza, Hin
 use Rattle.universe_model.specs.declared.FileKind.{FileKind}
 use Rattle.universe_model.specs.declared.FileKind.TheVariants as file
 use Rattle.problem.specs.declared.limits.Which.{Which}
-use Rattle.problem.specs.declared.limits.Which.TheVariants.{FileBytes, Packages, Versions, Dependencies, Targets, LevelAmount, LineBytes, DialogueLines, Choices}
+use Rattle.problem.specs.declared.limits.Which.TheVariants.{FileBytes, Packages, Versions, Dependencies, Targets, LevelAmount, LineBytes, DialogueLines}
 use Rattle.resolve_words.specs.declared.ends.UsageFault.{UsageFault}
 use Rattle.resolve_words.specs.declared.ends.UsageFault.TheVariants.{Words, Cost, Arch, Sample, Files, Action}
 use Rattle.run_status.specs.declared.Status.{Status}
@@ -31,7 +31,6 @@ which_name Targets = codes "Targets"
 which_name LevelAmount = codes "LevelAmount"
 which_name LineBytes = codes "LineBytes"
 which_name DialogueLines = codes "DialogueLines"
-which_name Choices = codes "Choices"
 
 abbrev pub file_name : FileKind → List ℕ
 file_name file.Status = codes "status"

@@ -31,7 +31,6 @@ fn which_name(which: Which) -> &'static [u8]
         Which::LevelAmount => b"LevelAmount",
         Which::LineBytes => b"LineBytes",
         Which::DialogueLines => b"DialogueLines",
-        Which::Choices => b"Choices",
     }
 }
 

@@ -1,4 +1,4 @@
-use Rattle.resolver_model.proofs.Sublists.{choice_set_below}
+use Rattle.resolver_model.proofs.Choosing.{choice_set_below}
 use Rattle.dialogue.proofs.replies.solution_of.Goals as goal
 
 pub cost-requires : goal.cost-requires

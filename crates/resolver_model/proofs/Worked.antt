@@ -3,13 +3,11 @@ use Rattle.std.proofs.Common.{◌≡◌, ℕ, List, [], ◌∷◌, Bool, true, f
 use Rattle.resolver_model.specs.Problems.{Problem, choices, is_broken}
 use Rattle.resolver_model.specs.Costs.{Table, cost}
 use Rattle.resolver_model.specs.Rules.{no_rules, set_mark, marks}
-use Rattle.resolver_model.specs.Scan.{first}
+use Rattle.resolver_model.specs.First.{is_obtainable}
 use Rattle.resolver_model.specs.Trees.{Leaf, tree_at, is_wanted, is_finished}
 use Rattle.resolver_model.specs.Histories.{History, given_at, cursor_at, rules_at, puts_since, out_at}
-use Rattle.resolver_model.specs.First.{IsFirst, IsNoneLeft}
 use Rattle.resolver_model.specs.Lines.{is_derived}
 use Rattle.resolver_model.specs.declared.lines.Bound.TheVariants.{Cost, Given, Impossible}
-use Rattle.resolver_model.proofs.FirstFound.{IsFirst-from_first, IsNoneLeft-from_first}
 use Rattle.resolver_model.specs.Answers.{Setting, situation_at}
 use Rattle.resolver_model.specs.declared.marks.Mark.TheVariants.{Approved, Rejected, Free}
 use Rattle.resolver_model.specs.declared.history.By.TheVariants.{Dep}
@@ -39,18 +37,6 @@ path_choices = refl
 path_broken : is_broken path [] 0 ≡ true
 path_broken = refl
 
-path_first : first path path_table no_rules [] ≡ Some (4 ∷ [])
-path_first = refl
-
-path_second : first path path_table no_rules ((4 ∷ []) ∷ []) ≡ Some (3 ∷ 6 ∷ [])
-path_second = refl
-
-path_third : first path path_table no_rules ((4 ∷ []) ∷ (3 ∷ 6 ∷ []) ∷ []) ≡ Some (0 ∷ [])
-path_third = refl
-
-path_no_more : first path path_table no_rules ((4 ∷ []) ∷ (3 ∷ 6 ∷ []) ∷ (0 ∷ []) ∷ []) ≡ None
-path_no_more = refl
-
 path_costs : cost path_table (3 ∷ 6 ∷ []) ≡ 0 ∷ 0 ∷ 2 ∷ []
 path_costs = refl
 
@@ -74,36 +60,8 @@ three_table = record {
 three_choices : choices three ≡ 0 ∷ 1 ∷ 3 ∷ 5 ∷ 6 ∷ 7 ∷ []
 three_choices = refl
 
-three_first : first three three_table no_rules [] ≡ Some (5 ∷ [])
-three_first = refl
-
-three_second : first three three_table no_rules ((5 ∷ []) ∷ []) ≡ Some (1 ∷ [])
-three_second = refl
-
-three_third : first three three_table no_rules ((5 ∷ []) ∷ (1 ∷ []) ∷ []) ≡ Some (6 ∷ 7 ∷ [])
-three_third = refl
-
-three_fourth : first three three_table no_rules ((5 ∷ []) ∷ (1 ∷ []) ∷ (6 ∷ 7 ∷ []) ∷ []) ≡ Some (0 ∷ [])
-three_fourth = refl
-
-three_no_more : first three three_table no_rules ((5 ∷ []) ∷ (1 ∷ []) ∷ (6 ∷ 7 ∷ []) ∷ (0 ∷ []) ∷ []) ≡ None
-three_no_more = refl
-
 three_costs : map (cost three_table) ((5 ∷ []) ∷ (1 ∷ []) ∷ (6 ∷ 7 ∷ []) ∷ (0 ∷ []) ∷ []) ≡ (0 ∷ 0 ∷ 1 ∷ []) ∷ (0 ∷ 1 ∷ 1 ∷ []) ∷ (1 ∷ 0 ∷ 2 ∷ []) ∷ (1 ∷ 1 ∷ 1 ∷ []) ∷ []
 three_costs = refl
-
--- c removed is approved, and then freed
-approved_first : first three three_table (set_mark no_rules 7 Approved) [] ≡ Some (5 ∷ 7 ∷ [])
-approved_first = refl
-
-freed_second : first three three_table (set_mark (set_mark no_rules 7 Approved) 7 Free) ((5 ∷ 7 ∷ []) ∷ []) ≡ Some (5 ∷ [])
-freed_second = refl
-
-two_versions : first three three_table (set_mark (set_mark no_rules 5 Approved) 6 Approved) [] ≡ None
-two_versions = refl
-
-all_rejected : first three three_table (set_mark (set_mark (set_mark (set_mark no_rules 5 Rejected) 1 Rejected) 0 Rejected) 7 Rejected) [] ≡ None
-all_rejected = refl
 
 three_marks : marks (set_mark (set_mark no_rules 7 Approved) 0 Rejected) ≡ (0, Rejected) ∷ (7, Approved) ∷ []
 three_marks = refl
@@ -157,17 +115,12 @@ softly_table = record {
   levels = record { greatest = false; amounts = 0 ∷ 0 ∷ 0 ∷ 0 ∷ 0 ∷ [] } ∷ record { greatest = false; amounts = 1 ∷ 0 ∷ 0 ∷ 0 ∷ 0 ∷ [] } ∷ [];
 }
 
-softly_first : first softly softly_table no_rules [] ≡ Some (3 ∷ [])
-softly_first = refl
+-- which sets are obtainable at first, and once e was delivered
+softly_obtainable : map (is_obtainable softly softly_table no_rules []) ([] ∷ (0 ∷ []) ∷ (3 ∷ []) ∷ (4 ∷ []) ∷ []) ≡ false ∷ true ∷ true ∷ true ∷ []
+softly_obtainable = refl
 
-softly_second : first softly softly_table no_rules ((3 ∷ []) ∷ []) ≡ Some (4 ∷ [])
-softly_second = refl
-
-softly_third : first softly softly_table no_rules ((3 ∷ []) ∷ (4 ∷ []) ∷ []) ≡ Some (0 ∷ [])
-softly_third = refl
-
-softly_no_more : first softly softly_table no_rules ((3 ∷ []) ∷ (4 ∷ []) ∷ (0 ∷ []) ∷ []) ≡ None
-softly_no_more = refl
+softly_given : map (is_obtainable softly softly_table no_rules ((3 ∷ []) ∷ [])) ((0 ∷ []) ∷ (3 ∷ []) ∷ (3 ∷ 4 ∷ []) ∷ (4 ∷ []) ∷ []) ≡ true ∷ false ∷ false ∷ true ∷ []
+softly_given = refl
 
 -- exim4 and postfix each conflict with another mail transport agent. Wanted: postfix
 abbrev mail : Problem
@@ -183,21 +136,8 @@ removals_first = record {
   levels = record { greatest = false; amounts = 1 ∷ 0 ∷ 0 ∷ 0 ∷ 0 ∷ 0 ∷ [] } ∷ record { greatest = false; amounts = 0 ∷ 0 ∷ 1 ∷ 0 ∷ 0 ∷ 0 ∷ [] } ∷ [];
 }
 
-mail_first : first mail removals_first no_rules [] ≡ Some (2 ∷ [])
-mail_first = refl
-
-mail_second : first mail removals_first no_rules ((2 ∷ []) ∷ []) ≡ Some (0 ∷ [])
-mail_second = refl
-
-mail_no_more : first mail removals_first no_rules ((2 ∷ []) ∷ (0 ∷ []) ∷ []) ≡ None
-mail_no_more = refl
-
--- a computed first set is the first set
-path_is_first : IsFirst path path_table no_rules [] (4 ∷ [])
-path_is_first = IsFirst-from_first path path_table no_rules [] (4 ∷ []) refl
-
-path_is_none_left : IsNoneLeft path path_table no_rules ((4 ∷ []) ∷ (3 ∷ 6 ∷ []) ∷ (0 ∷ []) ∷ [])
-path_is_none_left = IsNoneLeft-from_first path path_table no_rules ((4 ∷ []) ∷ (3 ∷ 6 ∷ []) ∷ (0 ∷ []) ∷ []) refl
+mail_obtainable : map (is_obtainable mail removals_first no_rules ((2 ∷ []) ∷ [])) ([] ∷ (0 ∷ []) ∷ (0 ∷ 2 ∷ []) ∷ (2 ∷ []) ∷ []) ≡ false ∷ true ∷ false ∷ false ∷ []
+mail_obtainable = refl
 
 -- removals, and the greatest of removals
 abbrev greatest_table : Table
