@@ -1,5 +1,5 @@
 -- At most one reply to a command is right after a history.
-use Rattle.std.proofs.Common.{inl, inr, ◌≡◌, ◌<◌, ◌≤◌, ◌+◌, ℕ, List, [], ◌∷◌, true, false, not, ◌&&◌, refl, ap, sym, ◌∙◌, arith, length, nat_eq}
+use Rattle.std.proofs.Common.{inl, inr, ◌≡◌, ◌<◌, ◌≤◌, ◌+◌, ℕ, List, [], ◌∷◌, Bool, true, false, not, ◌&&◌, refl, ap, sym, ◌∙◌, arith, length, nat_eq}
 use Rattle.std.specs.List.{list_all, list_any}
 use Rattle.std.proofs.lemmas.Bool.{and_parts, or_cases, not-true}
 use Rattle.lists.proofs.Sets.{list_all-has}
@@ -73,22 +73,26 @@ next_old s history actor number set NoMore h k = let lt : cursor_at history < de
 next_old s history actor number set (NotYet steps) h k = let lt : cursor_at history < delivery_count history = h.0 in let e : cursor_at history ≡ delivery_count history = k.0 in absurd (omega (arith, lt, e))
 next_old s history actor number set answer h k = absurd k
 
-next_fresh : (s : Setting) (history : History) (actor number : ℕ) (set : List ℕ) (answer : Reply) → IsNextReply s history actor (Solution number set true) → IsShown s history (Solution number set true) → IsNextReply s history actor answer → IsShown s history answer → Solution number set true ≡ answer
-next_fresh s history actor number set (Solution m x false) h u k v = let lt : cursor_at history < delivery_count history = k.0 in let e : cursor_at history ≡ delivery_count history = h.0 in absurd (omega (arith, lt, e))
-next_fresh s history actor number set (Solution m x true) h u k v =
+-- a reply is no "not yet" that may stand after the history
+abbrev IsNoWait : Setting → History → ℕ → Reply → Type 0
+IsNoWait s history actor answer = (steps : ℕ) → IsNextReply s history actor (NotYet steps) → answer ≡ NotYet steps → ⊥
+
+next_fresh : (s : Setting) (history : History) (actor number : ℕ) (set : List ℕ) (answer : Reply) → IsNoWait s history actor answer → IsNextReply s history actor (Solution number set true) → IsNextReply s history actor answer → Solution number set true ≡ answer
+next_fresh s history actor number set (Solution m x false) w h k = let lt : cursor_at history < delivery_count history = k.0 in let e : cursor_at history ≡ delivery_count history = h.0 in absurd (omega (arith, lt, e))
+next_fresh s history actor number set (Solution m x true) w h k =
     let n : number ≡ m = h.1 ∙ sym k.1 in
     let e : set ≡ x = IsFirst-unique s.problem s.table (rules_at s.first_rules history) (given_at history) set x h.2 k.2 in
     cc (n, e)
-next_fresh s history actor number set NoMore h u k v = absurd (first_not_none s.problem s.table (rules_at s.first_rules history) (given_at history) set h.2 k.1)
-next_fresh s history actor number set (NotYet steps) h u k v = let f : true ≡ false = sym k.2 ∙ u.0 in absurd (cc)
-next_fresh s history actor number set answer h u k v = absurd k
+next_fresh s history actor number set NoMore w h k = absurd (first_not_none s.problem s.table (rules_at s.first_rules history) (given_at history) set h.2 k.1)
+next_fresh s history actor number set (NotYet steps) w h k = absurd (w steps k refl)
+next_fresh s history actor number set answer w h k = absurd k
 
-next_none : (s : Setting) (history : History) (actor : ℕ) (answer : Reply) → IsNextReply s history actor NoMore → IsShown s history NoMore → IsNextReply s history actor answer → NoMore ≡ answer
-next_none s history actor (Solution m x false) h u k = let lt : cursor_at history < delivery_count history = k.0 in let e : cursor_at history ≡ delivery_count history = h.0 in absurd (omega (arith, lt, e))
-next_none s history actor (Solution m x true) h u k = absurd (first_not_none s.problem s.table (rules_at s.first_rules history) (given_at history) x k.2 h.1)
-next_none s history actor NoMore h u k = refl
-next_none s history actor (NotYet steps) h u k = absurd (none_wanted (situation_at s history) u k.2)
-next_none s history actor answer h u k = absurd k
+next_none : (s : Setting) (history : History) (actor : ℕ) (answer : Reply) → IsNoWait s history actor answer → IsNextReply s history actor NoMore → IsNextReply s history actor answer → NoMore ≡ answer
+next_none s history actor (Solution m x false) w h k = let lt : cursor_at history < delivery_count history = k.0 in let e : cursor_at history ≡ delivery_count history = h.0 in absurd (omega (arith, lt, e))
+next_none s history actor (Solution m x true) w h k = absurd (first_not_none s.problem s.table (rules_at s.first_rules history) (given_at history) x k.2 h.1)
+next_none s history actor NoMore w h k = refl
+next_none s history actor (NotYet steps) w h k = absurd (w steps k refl)
+next_none s history actor answer w h k = absurd k
 
 next_not_yet : (s : Setting) (history : History) (actor steps : ℕ) (answer : Reply) → IsNextReply s history actor (NotYet steps) → IsNextReply s history actor answer → IsShown s history answer → NotYet steps ≡ answer
 next_not_yet s history actor steps (Solution m x false) h k v = let lt : cursor_at history < delivery_count history = k.0 in let e : cursor_at history ≡ delivery_count history = h.0 in absurd (omega (arith, lt, e))
@@ -99,10 +103,25 @@ next_not_yet s history actor steps answer h k v = absurd k
 
 next_one : (s : Setting) (history : History) (actor : ℕ) (reply answer : Reply) → IsNextReply s history actor reply → IsShown s history reply → IsNextReply s history actor answer → IsShown s history answer → reply ≡ answer
 next_one s history actor (Solution number set false) answer h u k v = next_old s history actor number set answer h k
-next_one s history actor (Solution number set true) answer h u k v = next_fresh s history actor number set answer h u k v
-next_one s history actor NoMore answer h u k v = next_none s history actor answer h u k
+next_one s history actor (Solution number set true) answer h u k v = next_fresh s history actor number set answer (λ steps wait e. let f : true ≡ false = sym wait.2 ∙ u.0 in cc) h k
+next_one s history actor NoMore answer h u k v = next_none s history actor answer (λ steps wait e. none_wanted (situation_at s history) u wait.2) h k
 next_one s history actor (NotYet steps) answer h u k v = next_not_yet s history actor steps answer h k v
 next_one s history actor reply answer h u k v = absurd h
+
+-- whether a reply tells more than that the search goes on
+abbrev pub is_no_wait : Reply → Bool
+is_no_wait (NotYet steps) = false
+is_no_wait reply = true
+
+no_wait : (s : Setting) (history : History) (actor : ℕ) (answer : Reply) → is_no_wait answer ≡ true → IsNoWait s history actor answer
+no_wait s history actor answer t steps wait e = let f : true ≡ false = sym t ∙ ap is_no_wait e in cc
+
+next_told : (s : Setting) (history : History) (actor : ℕ) (reply answer : Reply) → is_no_wait reply ≡ true → is_no_wait answer ≡ true → IsNextReply s history actor reply → IsNextReply s history actor answer → reply ≡ answer
+next_told s history actor (Solution number set false) answer t u h k = next_old s history actor number set answer h k
+next_told s history actor (Solution number set true) answer t u h k = next_fresh s history actor number set answer (no_wait s history actor answer u) h k
+next_told s history actor NoMore answer t u h k = next_none s history actor answer (no_wait s history actor answer u) h k
+next_told s history actor (NotYet steps) answer t u h k = absurd (cc)
+next_told s history actor reply answer t u h k = absurd h
 
 prev_shown : (history : History) (number : ℕ) (set : List ℕ) (answer : Reply) → IsPrevReply history (Solution number set false) → IsPrevReply history answer → Solution number set false ≡ answer
 prev_shown history number set (Solution m x false) h k =
@@ -195,6 +214,20 @@ right_one s history actor command.Summary reply answer h u k v = h ∙ sym k
 right_one s history actor command.Accept reply answer h u k v = accept_one s history reply answer h k
 right_one s history actor command.Quit reply answer h u k v = h ∙ sym k
 right_one s history actor (command.Bad kind) reply answer h u k v = h ∙ sym k
+
+-- "not yet" aside, at most one reply is right, whatever the tree shows
+pub told_one : (s : Setting) (history : History) (actor : ℕ) (said : Command) (reply answer : Reply) → is_no_wait reply ≡ true → is_no_wait answer ≡ true → IsRightAnswer s history actor said reply → IsRightAnswer s history actor said answer → reply ≡ answer
+told_one s history actor command.Next reply answer t u h k = next_told s history actor reply answer t u h k
+told_one s history actor command.Prev reply answer t u h k = prev_one history reply answer h k
+told_one s history actor (command.Reject c) reply answer t u h k = h ∙ sym k
+told_one s history actor (command.Approve c) reply answer t u h k = h ∙ sym k
+told_one s history actor (command.Free c) reply answer t u h k = h ∙ sym k
+told_one s history actor (command.Cap level most) reply answer t u h k = cap_one s level reply answer h k
+told_one s history actor command.Rules reply answer t u h k = h ∙ sym k
+told_one s history actor command.Summary reply answer t u h k = h ∙ sym k
+told_one s history actor command.Accept reply answer t u h k = accept_one s history reply answer h k
+told_one s history actor command.Quit reply answer t u h k = h ∙ sym k
+told_one s history actor (command.Bad kind) reply answer t u h k = h ∙ sym k
 
 pub IsAnsweredOnce-all : (s : Setting) → IsAnsweredOnce s
 IsAnsweredOnce-all s history actor said reply answer h k = right_one s history actor said reply answer h.2 h.3 k.2 k.3

@@ -14,6 +14,7 @@ pub mod Births
 pub mod Learning
 pub mod Unsplit
 pub mod Answers
+pub mod Free
 pub mod Marks
 pub mod Alike
 pub mod Row

@@ -1,11 +1,8 @@
--- A reply that settles a request depends on the answers before it alone.
+-- What a history says of the rules, the deliveries and the cursor stands in its answers alone, "not yet" aside.
 use Rattle.std.proofs.Common.{inl, inr, ◌≡◌, ℕ, ◌+◌, List, [], ◌∷◌, true, false, cond, refl, ap, sym, subst, ◌∙◌, length}
 use Rattle.std.specs.List.{fold}
 use Rattle.std.specs.Option.{unwrap_or}
-use Rattle.resolver_model.specs.declared.history.Command.{Command}
-use Rattle.resolver_model.specs.declared.history.Command.TheVariants as command
-use Rattle.resolver_model.specs.declared.history.Reply.{Reply}
-use Rattle.resolver_model.specs.declared.history.Reply.TheVariants.{Solution, NoMore, NotYet}
+use Rattle.resolver_model.specs.declared.history.Reply.TheVariants.{Solution, NotYet}
 use Rattle.resolver_model.specs.declared.history.Entry.{Entry}
 use Rattle.resolver_model.specs.declared.history.Entry.TheVariants.{Say, Take, Put, Back}
 use Rattle.resolver_model.specs.Problems.{Problem}
@@ -13,10 +10,9 @@ use Rattle.resolver_model.specs.Costs.{Table, IsBefore}
 use Rattle.resolver_model.specs.Rules.{Rules}
 use Rattle.resolver_model.specs.First.{is_obtainable, IsFirst, IsNoneLeft}
 use Rattle.resolver_model.specs.Histories.{History, given_at, cursor_at, shown_by, rules_at, rules_after}
-use Rattle.resolver_model.specs.Answers.{Setting, IsRightAnswer, IsNextReply}
 use Rattle.resolver_model.proofs.SetOrder.{cases_set_cmp}
 use Rattle.resolver_model.proofs.Enumerations.{not_both_before}
-use Rattle.laws_session.specs.Laws.{is_told, told, is_settling, IsFreeOfSchedule}
+use Rattle.laws_session.specs.Laws.{is_told, told}
 
 -- what no untold entry changes is the same of the told ones alone
 fold_told : {B : Type 0} (f : B → Entry → B) → ((b : B) (entry : Entry) → is_told entry ≡ false → f b entry ≡ b) → (b : B) (history : History) → fold f b (told history) ≡ fold f b history
@@ -81,50 +77,5 @@ IsFirst-unique p table rules given set other a b =
     itself : (x y : List ℕ) → x ≡ y → IsBefore table x y → ⊥
     itself x y e lt = let P : List ℕ → Type 0 = λ z. IsBefore table x z in let own = subst P (sym e) lt in not_both_before table x x own own
 
--- a settling reply is to `Next`
-settling_next : (s : Setting) (history : History) (actor : ℕ) (said : Command) (reply : Reply) → is_settling reply ≡ true → IsRightAnswer s history actor said reply → IsNextReply s history actor reply
-settling_next s history actor command.Next reply t h = h
-settling_next s history actor command.Prev (Solution number set true) t h = absurd h
-settling_next s history actor command.Prev NoMore t h = absurd h
-settling_next s history actor command.Prev reply t h = absurd (cc)
-settling_next s history actor (command.Reject c) reply t h = let e : is_settling reply ≡ false = ap is_settling h in absurd (cc)
-settling_next s history actor (command.Approve c) reply t h = let e : is_settling reply ≡ false = ap is_settling h in absurd (cc)
-settling_next s history actor (command.Free c) reply t h = let e : is_settling reply ≡ false = ap is_settling h in absurd (cc)
-settling_next s history actor (command.Cap level most) (Solution number set true) t h = absurd h
-settling_next s history actor (command.Cap level most) NoMore t h = absurd h
-settling_next s history actor (command.Cap level most) reply t h = absurd (cc)
-settling_next s history actor command.Rules reply t h = let e : is_settling reply ≡ false = ap is_settling h in absurd (cc)
-settling_next s history actor command.Summary reply t h = let e : is_settling reply ≡ false = ap is_settling h in absurd (cc)
-settling_next s history actor command.Accept (Solution number set true) t h = absurd h
-settling_next s history actor command.Accept NoMore t h = absurd h
-settling_next s history actor command.Accept reply t h = absurd (cc)
-settling_next s history actor command.Quit reply t h = let e : is_settling reply ≡ false = ap is_settling h in absurd (cc)
-settling_next s history actor (command.Bad kind) reply t h = let e : is_settling reply ≡ false = ap is_settling h in absurd (cc)
-
 pub first_not_none : (p : Problem) (table : Table) (rules : Rules) (given : List (List ℕ)) (set : List ℕ) → IsFirst p table rules given set → IsNoneLeft p table rules given → ⊥
 first_not_none p table rules given set first none = let o : is_obtainable p table rules given set ≡ true = first.obtainable in let n : is_obtainable p table rules given set ≡ false = none set in let f : true ≡ false = sym o ∙ n in cc
-
-same_reply : (s : Setting) (one other : History) (actor mate : ℕ) (reply answer : Reply) → given_at one ≡ given_at other → rules_at s.first_rules one ≡ rules_at s.first_rules other
-    → is_settling reply ≡ true → is_settling answer ≡ true → IsNextReply s one actor reply → IsNextReply s other mate answer → reply ≡ answer
-same_reply s one other actor mate (Solution n a true) (Solution m b true) g r t u h k =
-    let F : Rules × List (List ℕ) → Type 0 = λ q. IsFirst s.problem s.table q.0 q.1 b in
-    let both : (rules_at s.first_rules other, given_at other) ≡ (rules_at s.first_rules one, given_at one) = cc (g, r) in
-    let set_is : a ≡ b = IsFirst-unique s.problem s.table (rules_at s.first_rules one) (given_at one) a b h.2 (subst F both k.2) in
-    let number_is : n ≡ m = h.1 ∙ ap (λ given. length given + 1) g ∙ sym k.1 in
-    cc (set_is, number_is)
-same_reply s one other actor mate (Solution n a true) NoMore g r t u h k =
-    let F : Rules × List (List ℕ) → Type 0 = λ q. IsNoneLeft s.problem s.table q.0 q.1 in
-    let both : (rules_at s.first_rules other, given_at other) ≡ (rules_at s.first_rules one, given_at one) = cc (g, r) in
-    absurd (first_not_none s.problem s.table (rules_at s.first_rules one) (given_at one) a h.2 (subst F both k.1))
-same_reply s one other actor mate NoMore (Solution m b true) g r t u h k =
-    let F : Rules × List (List ℕ) → Type 0 = λ q. IsFirst s.problem s.table q.0 q.1 b in
-    let both : (rules_at s.first_rules other, given_at other) ≡ (rules_at s.first_rules one, given_at one) = cc (g, r) in
-    absurd (first_not_none s.problem s.table (rules_at s.first_rules one) (given_at one) b (subst F both k.2) h.1)
-same_reply s one other actor mate NoMore NoMore g r t u h k = refl
-same_reply s one other actor mate reply answer g r t u h k = absurd (cc)
-
-pub IsFreeOfSchedule-all : (s : Setting) → IsFreeOfSchedule s
-IsFreeOfSchedule-all s one other actor mate said word reply answer same h k t u =
-    let g : given_at one ≡ given_at other = sym (given_at-told one) ∙ ap given_at same ∙ given_at-told other in
-    let r : rules_at s.first_rules one ≡ rules_at s.first_rules other = sym (rules_at-told s.first_rules one) ∙ ap (rules_at s.first_rules) same ∙ rules_at-told s.first_rules other in
-    same_reply s one other actor mate reply answer g r t u (settling_next s one actor said reply t h.2) (settling_next s other mate word answer u k.2)

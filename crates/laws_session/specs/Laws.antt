@@ -89,16 +89,10 @@ is_told _ = false
 abbrev pub told : History → History
 told history = filter is_told history
 
--- a reply that settles a request: a fresh solution, or "no more"
-abbrev pub is_settling : Reply → Bool
-is_settling (Solution number set fresh) = fresh
-is_settling NoMore = true
-is_settling _ = false
-
--- After two histories with the same answers, "not yet" aside, two replies that settle a request are the same.
+-- After two histories with the same answers, "not yet" aside, two replies to one command are the same, "not yet" aside.
 abbrev pub IsFreeOfSchedule : Setting → Type 0
-IsFreeOfSchedule s = (one other : History) (actor mate : ℕ) (command said : Command) (reply answer : Reply) → told one ≡ told other
-    → Follows s one (Say actor command reply) → Follows s other (Say mate said answer) → IsTrue (is_settling reply) → IsTrue (is_settling answer) → reply ≡ answer
+IsFreeOfSchedule s = (one other : History) (actor mate : ℕ) (command : Command) (reply answer : Reply) → told one ≡ told other
+    → Follows s one (Say actor command reply) → Follows s other (Say mate command answer) → IsTrue (is_told (Say actor command reply)) → IsTrue (is_told (Say mate command answer)) → reply ≡ answer
 
 -- no rule stood at any delivery
 abbrev pub IsDeliveredWithoutRules : Setting → History → Type 0

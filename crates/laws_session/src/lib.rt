@@ -83,7 +83,7 @@ pub fn puts_are_few()
     ensures slice { (s : Setting) (history : History) → IsLegal s history → IsNeverNotYet s history }
 {}
 
-/// A law: a fresh solution and "no more" depend on the answers before them alone, and on no step of the search.
+/// A law: a reply depends on the command and on the answers before it alone, and on no step of the search; "not yet" aside.
 pub fn answers_are_free_of_schedule()
     ensures { (s : Setting) → IsFreeOfSchedule s }
 {}

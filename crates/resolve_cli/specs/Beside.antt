@@ -9,7 +9,7 @@ use Rattle.resolver_model.specs.declared.history.Entry.TheVariants.{Say}
 use Rattle.resolver_model.specs.Histories.{History}
 use Rattle.resolver_model.specs.Answers.{Setting}
 use Rattle.resolver_model.specs.Legal.{IsLegal}
-use Rattle.laws_session.specs.Laws.{told, is_settling}
+use Rattle.laws_session.specs.Laws.{told, is_told}
 use Rattle.run_status.specs.declared.Status.TheVariants.{NoMemory}
 use Rattle.search_core.specs.Sessions.{setting_of}
 use Rattle.sources.specs.Sources.{Sources, AreSources}
@@ -49,7 +49,7 @@ pub record IsDialogueBeside (words : List Text) (old new : World) (r : Report) :
 abbrev pub IsRunBeside : List Text → World → World → Report → Type 0
 IsRunBeside words old new r = IsRefused words old new r ⊎ IsDialogueBeside words old new r
 
--- Where the answers so far were the same, "not yet" aside, two replies that settle a request are the same.
+-- Where the answers so far were the same, "not yet" aside, two replies to one command are the same, "not yet" aside.
 abbrev pub AreFreeOfSchedule : History → History → Type 0
-AreFreeOfSchedule one other = (before after front back : History) (actor mate : ℕ) (command said : Command) (reply answer : Reply) → one ≡ before ++ Say actor command reply ∷ after → other ≡ front ++ Say mate said answer ∷ back
-    → told before ≡ told front → IsTrue (is_settling reply) → IsTrue (is_settling answer) → reply ≡ answer
+AreFreeOfSchedule one other = (before after front back : History) (actor mate : ℕ) (command : Command) (reply answer : Reply) → one ≡ before ++ Say actor command reply ∷ after → other ≡ front ++ Say mate command answer ∷ back
+    → told before ≡ told front → IsTrue (is_told (Say actor command reply)) → IsTrue (is_told (Say mate command answer)) → reply ≡ answer

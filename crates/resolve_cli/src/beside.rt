@@ -192,7 +192,7 @@ pub fn run_session<
 }
 
 /// A law: answers do not depend on which thread searched when. Two runs over the same words and texts, which were answered alike so
-/// far, "not yet" aside, are answered alike where a request is settled. Its contract is the law.
+/// far, "not yet" aside, answer the same command alike, "not yet" aside. Its contract is the law.
 pub fn answers_are_free_of_schedule()
     ensures { (words : List Text) (old new first last : World) (r q : Report) → (run : IsDialogueBeside words old new r) → (other : IsDialogueBeside words first last q)
         → run.texts ≡ other.texts → AreFreeOfSchedule r.history.items q.history.items }

@@ -1,4 +1,4 @@
-use Rattle.laws_session.proofs.Schedule.{IsFreeOfSchedule-all}
+use Rattle.laws_session.proofs.Free.{IsFreeOfSchedule-all}
 use Rattle.laws_session.proofs.answers_are_free_of_schedule.Goals as goal
 
 pub returns : goal.returns

@@ -7,9 +7,9 @@ use Rattle.sources.specs.Sources.{Sources}
 use Rattle.resolve_cli.proofs.beside.answers_are_free_of_schedule.Goals as goal
 
 pub returns : goal.returns
-returns c words old new first last r q run other same before after front back actor mate command said reply answer cut cut_too alike settles settles_too =
+returns c words old new first last r q run other same before after front back actor mate command reply answer cut cut_too alike tells tells_too =
     let g = settings_in words in
-    let F : Sources → Type 0 = λ t. Follows (setting_beside g t) front (Say mate said answer) in
-    c.answers_are_free_of_schedule.ensures (setting_beside g run.texts) before front actor mate command said reply answer alike
+    let F : Sources → Type 0 = λ t. Follows (setting_beside g t) front (Say mate command answer) in
+    c.answers_are_free_of_schedule.ensures (setting_beside g run.texts) before front actor mate command reply answer alike
     (run.spoken.legal before (Say actor command reply) after cut)
-    (subst F (sym same) (other.spoken.legal front (Say mate said answer) back cut_too)) settles settles_too
+    (subst F (sym same) (other.spoken.legal front (Say mate command answer) back cut_too)) tells tells_too
