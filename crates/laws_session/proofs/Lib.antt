@@ -15,6 +15,7 @@ pub mod Learning
 pub mod Unsplit
 pub mod Answers
 pub mod Free
+pub mod Wholes
 pub mod Marks
 pub mod Alike
 pub mod Row

@@ -1,6 +1,6 @@
 -- Laws of legal histories.
-use Rattle.std.specs.Prelude.{nat_lt, ◌==◌, ◌+◌, ◌≡◌, ◌≢◌, ◌⊎◌, ◌<◌, ◌≤◌, ◌^◌, ℕ, Bool, true, false, List, [], ◌∷◌, ◌++◌, length, IsTrue, IsFalse, Some, None, ⊤}
-use Rattle.std.specs.List.{filter, list_all}
+use Rattle.std.specs.Prelude.{nat_lt, ◌==◌, ◌+◌, ◌≡◌, ◌≢◌, ◌⊎◌, ◌<◌, ◌≤◌, ◌^◌, ℕ, Bool, true, false, List, [], ◌∷◌, ◌++◌, length, IsTrue, IsFalse, Option, Some, None, ⊤}
+use Rattle.std.specs.List.{filter, filter_map, list_all, list_any}
 use Rattle.std.specs.Ordering.{is_le}
 use Rattle.lists.specs.Members.{Member}
 use Rattle.lists.specs.Sets.{with, is_disjoint, is_subset}
@@ -23,7 +23,7 @@ use Rattle.resolver_model.specs.declared.history.By.TheVariants.{Dep}
 use Rattle.resolver_model.specs.Births.{Birth, birth, births_at, taken_at, split_at}
 use Rattle.resolver_model.specs.Histories.{History, given_at, cursor_at, lines_at, out_at, rules_at}
 use Rattle.resolver_model.specs.Answers.{Setting, delivery_count}
-use Rattle.resolver_model.specs.Legal.{Follows}
+use Rattle.resolver_model.specs.Legal.{Follows, IsLegal}
 
 -- each line is sound for the deliveries
 abbrev pub AreLinesSound : Setting → History → Type 0
@@ -93,6 +93,29 @@ told history = filter is_told history
 abbrev pub IsFreeOfSchedule : Setting → Type 0
 IsFreeOfSchedule s = (one other : History) (actor mate : ℕ) (command : Command) (reply answer : Reply) → told one ≡ told other
     → Follows s one (Say actor command reply) → Follows s other (Say mate command answer) → IsTrue (is_told (Say actor command reply)) → IsTrue (is_told (Say mate command answer)) → reply ≡ answer
+
+-- a command, and the actor who gave it
+pub record Asking : Type 0 where
+  pub actor : ℕ
+  pub command : Command
+
+abbrev pub asked_by : Entry → Option Asking
+asked_by (Say actor command reply) = Some (record { actor = actor; command = command })
+asked_by _ = None
+
+-- the commands that a history answers
+abbrev pub asked : History → List Asking
+asked history = filter_map asked_by history
+
+-- whether an entry answers "not yet"
+abbrev pub is_wait : Entry → Bool
+is_wait (Say actor command (NotYet steps)) = true
+is_wait _ = false
+
+-- Two histories that answer the same commands, and nothing by "not yet", answer each of them alike.
+abbrev pub AreAnsweredAlike : Setting → Type 0
+AreAnsweredAlike s = (one other : History) → IsLegal s one → IsLegal s other → asked one ≡ asked other
+    → IsFalse (list_any is_wait one) → IsFalse (list_any is_wait other) → told one ≡ told other
 
 -- no rule stood at any delivery
 abbrev pub IsDeliveredWithoutRules : Setting → History → Type 0
