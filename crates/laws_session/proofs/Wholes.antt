@@ -10,8 +10,8 @@ use Rattle.resolver_model.specs.declared.history.Entry.TheVariants.{Say, Take, P
 use Rattle.resolver_model.specs.Histories.{History}
 use Rattle.resolver_model.specs.Answers.{Setting}
 use Rattle.resolver_model.specs.Legal.{Follows, IsLegal}
-use Rattle.laws_session.specs.Laws.{Asking, asked, told, is_told, is_wait, AreAnsweredAlike}
-use Rattle.laws_session.proofs.Free.{IsFreeOfSchedule-all}
+use Rattle.laws_session.specs.Laws.{Asking, asked, told, is_told, is_wait, IsSameQuestion, AreAnsweredAlike}
+use Rattle.laws_session.proofs.Free.{AreFreeOfSchedule-all}
 
 -- What is left of two histories: the parts before are told alike, and in what is left nothing waits.
 record IsSplit (one other before after front back : History) : Type 0 where
@@ -65,21 +65,21 @@ none_told (Put actor leaf by learned ∷ back) e = none_told back e
 none_told (Back actor leaf ∷ back) e = none_told back e
 
 -- the other history goes on up to its next answer, and then both go on
-meet : (s : Setting) (one other before : History) → IsLegal s one → IsLegal s other → (actor : ℕ) (command : Command) (reply : Reply) (after : History)
+meet : (s t : Setting) → IsSameQuestion s t → (one other before : History) → IsLegal s one → IsLegal t other → (actor : ℕ) (command : Command) (reply : Reply) (after : History)
     → ((front back : History) → IsSplit one other (before ++ Say actor command reply ∷ []) after front back → told after ≡ told back)
     → (back front : History) → IsSplit one other before (Say actor command reply ∷ after) front back → told (Say actor command reply ∷ after) ≡ told back
-meet s one other before h k actor command reply after rest [] front cut = absurd (let e = cut.asked_alike in cc)
-meet s one other before h k actor command reply after rest (Say mate said answer ∷ back) front cut =
+meet s t q one other before h k actor command reply after rest [] front cut = absurd (let e = cut.asked_alike in cc)
+meet s t q one other before h k actor command reply after rest (Say mate said answer ∷ back) front cut =
     let e = cut.asked_alike in
     let actor_is : actor ≡ mate = ap (λ l. (first_of (record { actor = actor; command = command }) l).actor) e in
     let command_is : command ≡ said = ap (λ l. (first_of (record { actor = actor; command = command }) l).command) e in
     let more_is : asked after ≡ asked back = cc e in
     let told_one : is_told (Say actor command reply) ≡ true = told_say actor command reply (or_first (is_wait (Say actor command reply)) (list_any is_wait after) cut.no_wait) in
     let told_other : is_told (Say mate said answer) ≡ true = told_say mate said answer (or_first (is_wait (Say mate said answer)) (list_any is_wait back) cut.no_wait_too) in
-    let P : Command → Type 0 = λ c. Follows s front (Say mate c answer) in
-    let turned : Follows s front (Say mate command answer) = subst P (sym command_is) (k front (Say mate said answer) back cut.other_is) in
+    let P : Command → Type 0 = λ c. Follows t front (Say mate c answer) in
+    let turned : Follows t front (Say mate command answer) = subst P (sym command_is) (k front (Say mate said answer) back cut.other_is) in
     let told_turned : is_told (Say mate command answer) ≡ true = told_say mate command answer (no_wait_turned mate said command answer (or_first (is_wait (Say mate said answer)) (list_any is_wait back) cut.no_wait_too)) in
-    let reply_is : reply ≡ answer = IsFreeOfSchedule-all s before front actor mate command reply answer cut.alike (h before (Say actor command reply) after cut.one_is) turned told_one told_turned in
+    let reply_is : reply ≡ answer = AreFreeOfSchedule-all s t q before front actor mate command reply answer cut.alike (h before (Say actor command reply) after cut.one_is) turned told_one told_turned in
     let same : Say actor command reply ≡ Say mate said answer = cc (actor_is, command_is, reply_is) in
     let tail : told after ≡ told back = rest (front ++ Say mate said answer ∷ []) back (record {
       one_is = moved one before (Say actor command reply) after cut.one_is;
@@ -90,8 +90,8 @@ meet s one other before h k actor command reply after rest (Say mate said answer
       no_wait_too = or_second (is_wait (Say mate said answer)) (list_any is_wait back) cut.no_wait_too;
     }) in
     told_head (Say actor command reply) after told_one ∙ ap (λ m. m ∷ told after) same ∙ ap (λ l. Say mate said answer ∷ l) tail ∙ sym (told_head (Say mate said answer) back told_other)
-meet s one other before h k actor command reply after rest (Take mate leaf ∷ back) front cut =
-    meet s one other before h k actor command reply after rest back (front ++ Take mate leaf ∷ []) (record {
+meet s t q one other before h k actor command reply after rest (Take mate leaf ∷ back) front cut =
+    meet s t q one other before h k actor command reply after rest back (front ++ Take mate leaf ∷ []) (record {
       one_is = cut.one_is;
       other_is = moved other front (Take mate leaf) back cut.other_is;
       alike = cut.alike ∙ sym (told_quiet front (Take mate leaf) refl);
@@ -99,8 +99,8 @@ meet s one other before h k actor command reply after rest (Take mate leaf ∷ b
       no_wait = cut.no_wait;
       no_wait_too = cut.no_wait_too;
     })
-meet s one other before h k actor command reply after rest (Put mate leaf by learned ∷ back) front cut =
-    meet s one other before h k actor command reply after rest back (front ++ Put mate leaf by learned ∷ []) (record {
+meet s t q one other before h k actor command reply after rest (Put mate leaf by learned ∷ back) front cut =
+    meet s t q one other before h k actor command reply after rest back (front ++ Put mate leaf by learned ∷ []) (record {
       one_is = cut.one_is;
       other_is = moved other front (Put mate leaf by learned) back cut.other_is;
       alike = cut.alike ∙ sym (told_quiet front (Put mate leaf by learned) refl);
@@ -108,8 +108,8 @@ meet s one other before h k actor command reply after rest (Put mate leaf by lea
       no_wait = cut.no_wait;
       no_wait_too = cut.no_wait_too;
     })
-meet s one other before h k actor command reply after rest (Back mate leaf ∷ back) front cut =
-    meet s one other before h k actor command reply after rest back (front ++ Back mate leaf ∷ []) (record {
+meet s t q one other before h k actor command reply after rest (Back mate leaf ∷ back) front cut =
+    meet s t q one other before h k actor command reply after rest back (front ++ Back mate leaf ∷ []) (record {
       one_is = cut.one_is;
       other_is = moved other front (Back mate leaf) back cut.other_is;
       alike = cut.alike ∙ sym (told_quiet front (Back mate leaf) refl);
@@ -119,12 +119,12 @@ meet s one other before h k actor command reply after rest (Back mate leaf ∷ b
     })
 
 -- both histories to their ends
-go_on : (s : Setting) (one other : History) → IsLegal s one → IsLegal s other → (after before front back : History) → IsSplit one other before after front back → told after ≡ told back
-go_on s one other h k [] before front back cut = sym (none_told back (sym cut.asked_alike))
-go_on s one other h k (Say actor command reply ∷ after) before front back cut =
-    meet s one other before h k actor command reply after (λ front back cut. go_on s one other h k after (before ++ Say actor command reply ∷ []) front back cut) back front cut
-go_on s one other h k (Take actor leaf ∷ after) before front back cut =
-    go_on s one other h k after (before ++ Take actor leaf ∷ []) front back (record {
+go_on : (s t : Setting) → IsSameQuestion s t → (one other : History) → IsLegal s one → IsLegal t other → (after before front back : History) → IsSplit one other before after front back → told after ≡ told back
+go_on s t q one other h k [] before front back cut = sym (none_told back (sym cut.asked_alike))
+go_on s t q one other h k (Say actor command reply ∷ after) before front back cut =
+    meet s t q one other before h k actor command reply after (λ front back cut. go_on s t q one other h k after (before ++ Say actor command reply ∷ []) front back cut) back front cut
+go_on s t q one other h k (Take actor leaf ∷ after) before front back cut =
+    go_on s t q one other h k after (before ++ Take actor leaf ∷ []) front back (record {
       one_is = moved one before (Take actor leaf) after cut.one_is;
       other_is = cut.other_is;
       alike = told_quiet before (Take actor leaf) refl ∙ cut.alike;
@@ -132,8 +132,8 @@ go_on s one other h k (Take actor leaf ∷ after) before front back cut =
       no_wait = cut.no_wait;
       no_wait_too = cut.no_wait_too;
     })
-go_on s one other h k (Put actor leaf by learned ∷ after) before front back cut =
-    go_on s one other h k after (before ++ Put actor leaf by learned ∷ []) front back (record {
+go_on s t q one other h k (Put actor leaf by learned ∷ after) before front back cut =
+    go_on s t q one other h k after (before ++ Put actor leaf by learned ∷ []) front back (record {
       one_is = moved one before (Put actor leaf by learned) after cut.one_is;
       other_is = cut.other_is;
       alike = told_quiet before (Put actor leaf by learned) refl ∙ cut.alike;
@@ -141,8 +141,8 @@ go_on s one other h k (Put actor leaf by learned ∷ after) before front back cu
       no_wait = cut.no_wait;
       no_wait_too = cut.no_wait_too;
     })
-go_on s one other h k (Back actor leaf ∷ after) before front back cut =
-    go_on s one other h k after (before ++ Back actor leaf ∷ []) front back (record {
+go_on s t q one other h k (Back actor leaf ∷ after) before front back cut =
+    go_on s t q one other h k after (before ++ Back actor leaf ∷ []) front back (record {
       one_is = moved one before (Back actor leaf) after cut.one_is;
       other_is = cut.other_is;
       alike = told_quiet before (Back actor leaf) refl ∙ cut.alike;
@@ -151,8 +151,8 @@ go_on s one other h k (Back actor leaf ∷ after) before front back cut =
       no_wait_too = cut.no_wait_too;
     })
 
-pub AreAnsweredAlike-all : (s : Setting) → AreAnsweredAlike s
-AreAnsweredAlike-all s one other h k same quiet quiet_too = go_on s one other h k one [] [] other (record {
+pub AreAnsweredAlike-all : (s t : Setting) → IsSameQuestion s t → AreAnsweredAlike s t
+AreAnsweredAlike-all s t q one other h k same quiet quiet_too = go_on s t q one other h k one [] [] other (record {
   one_is = refl;
   other_is = refl;
   alike = refl;

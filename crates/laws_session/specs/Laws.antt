@@ -89,10 +89,16 @@ is_told _ = false
 abbrev pub told : History → History
 told history = filter is_told history
 
+-- Two settings with the same problem, amounts and first rules. Slices and actors may differ.
+pub record IsSameQuestion (s t : Setting) : Type 0 where
+  pub problem : s.problem ≡ t.problem
+  pub table : s.table ≡ t.table
+  pub first_rules : s.first_rules ≡ t.first_rules
+
 -- After two histories with the same answers, "not yet" aside, two replies to one command are the same, "not yet" aside.
-abbrev pub IsFreeOfSchedule : Setting → Type 0
-IsFreeOfSchedule s = (one other : History) (actor mate : ℕ) (command : Command) (reply answer : Reply) → told one ≡ told other
-    → Follows s one (Say actor command reply) → Follows s other (Say mate command answer) → IsTrue (is_told (Say actor command reply)) → IsTrue (is_told (Say mate command answer)) → reply ≡ answer
+abbrev pub AreFreeOfSchedule : Setting → Setting → Type 0
+AreFreeOfSchedule s t = (one other : History) (actor mate : ℕ) (command : Command) (reply answer : Reply) → told one ≡ told other
+    → Follows s one (Say actor command reply) → Follows t other (Say mate command answer) → IsTrue (is_told (Say actor command reply)) → IsTrue (is_told (Say mate command answer)) → reply ≡ answer
 
 -- a command, and the actor who gave it
 pub record Asking : Type 0 where
@@ -113,8 +119,8 @@ is_wait (Say actor command (NotYet steps)) = true
 is_wait _ = false
 
 -- Two histories that answer the same commands, and nothing by "not yet", answer each of them alike.
-abbrev pub AreAnsweredAlike : Setting → Type 0
-AreAnsweredAlike s = (one other : History) → IsLegal s one → IsLegal s other → asked one ≡ asked other
+abbrev pub AreAnsweredAlike : Setting → Setting → Type 0
+AreAnsweredAlike s t = (one other : History) → IsLegal s one → IsLegal t other → asked one ≡ asked other
     → IsFalse (list_any is_wait one) → IsFalse (list_any is_wait other) → told one ≡ told other
 
 -- no rule stood at any delivery

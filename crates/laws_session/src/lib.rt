@@ -25,7 +25,7 @@ ghost use Rattle.resolver_model.specs.declared.lines.Bound.TheVariants.{Impossib
 ghost use Rattle.resolver_model.specs.declared.lines.Line.{Line};
 ghost use Rattle.resolver_model.specs.declared.marks.Mark.TheVariants.{Free};
 ghost use Rattle.laws_session.specs.Climbs.{IsClimb, IsCarriedNext};
-ghost use Rattle.laws_session.specs.Laws.{AreAnsweredAlike, AreBirths, AreTakenOnce, AreFirstInTurn, AreHandsApart, AreLeavesTrue, AreLeavesUnsplit, AreLinesSound, ArePutsFew, AreRulesFor, AreSplitsOpen, DoLinesFit, IsAnsweredOnce, IsCursorLow, IsDeliveredWithoutRules, IsFreeOfSchedule, IsKeptOut, IsNeverNotYet, IsTree, IsWithinOneLeaf, is_put};
+ghost use Rattle.laws_session.specs.Laws.{AreAnsweredAlike, AreBirths, AreFreeOfSchedule, AreTakenOnce, AreFirstInTurn, AreHandsApart, AreLeavesTrue, AreLeavesUnsplit, AreLinesSound, ArePutsFew, AreRulesFor, AreSplitsOpen, DoLinesFit, IsAnsweredOnce, IsCursorLow, IsDeliveredWithoutRules, IsKeptOut, IsNeverNotYet, IsSameQuestion, IsTree, IsWithinOneLeaf, is_put};
 ghost use Rattle.std.specs.Prelude.{[], ◌<◌, length, ◌++◌, ◌∷◌, ◌≡◌, IsFalse, IsTrue, List, Some, ℕ};
 
 /// A law: the empty history is legal, and so is a legal history with one more entry that may stand there.
@@ -83,14 +83,15 @@ pub fn puts_are_few()
     ensures slice { (s : Setting) (history : History) → IsLegal s history → IsNeverNotYet s history }
 {}
 
-/// A law: a reply depends on the command and on the answers before it alone, and on no step of the search; "not yet" aside.
+/// A law: a reply depends on the command and on the answers before it alone, and on no step of the search; "not yet" aside. So it does
+/// not depend on the slice or on how many actors there are.
 pub fn answers_are_free_of_schedule()
-    ensures { (s : Setting) → IsFreeOfSchedule s }
+    ensures { (s t : Setting) → IsSameQuestion s t → AreFreeOfSchedule s t }
 {}
 
 /// A law: two histories that answer the same commands, and nothing by "not yet", answer each of them alike.
 pub fn histories_are_answered_alike()
-    ensures { (s : Setting) → AreAnsweredAlike s }
+    ensures { (s t : Setting) → IsSameQuestion s t → AreAnsweredAlike s t }
 {}
 
 /// A law: an answer is determined. After a history at most one reply to an actor's command may follow.
