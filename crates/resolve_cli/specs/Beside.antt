@@ -1,5 +1,6 @@
 -- What a run promises whose session other threads may search beside the dialogue.
-use Rattle.std.specs.Prelude.{◌≡◌, ◌⊎◌, ◌+◌, ℕ, List, [], ◌∷◌, ◌++◌, None, IsTrue}
+use Rattle.std.specs.Prelude.{◌≡◌, ◌⊎◌, ◌+◌, ℕ, List, [], ◌∷◌, ◌++◌, None, IsTrue, IsFalse}
+use Rattle.std.specs.List.{list_any}
 use Rattle.clap.specs.Words.{Text}
 use Rattle.grounds.specs.Grounds.{problem_of, table_in, rules_in, refusal}
 use Rattle.resolve_words.specs.Given.{Given}
@@ -9,7 +10,7 @@ use Rattle.resolver_model.specs.declared.history.Entry.TheVariants.{Say}
 use Rattle.resolver_model.specs.Histories.{History}
 use Rattle.resolver_model.specs.Answers.{Setting}
 use Rattle.resolver_model.specs.Legal.{IsLegal}
-use Rattle.laws_session.specs.Laws.{told, is_told}
+use Rattle.laws_session.specs.Laws.{told, is_told, asked, is_wait, IsSameQuestion}
 use Rattle.run_status.specs.declared.Status.TheVariants.{NoMemory}
 use Rattle.search_core.specs.Sessions.{setting_of}
 use Rattle.sources.specs.Sources.{Sources, AreSources}
@@ -53,3 +54,11 @@ IsRunBeside words old new r = IsRefused words old new r ⊎ IsDialogueBeside wor
 abbrev pub AreFreeOfSchedule : History → History → Type 0
 AreFreeOfSchedule one other = (before after front back : History) (actor mate : ℕ) (command : Command) (reply answer : Reply) → one ≡ before ++ Say actor command reply ∷ after → other ≡ front ++ Say mate command answer ∷ back
     → told before ≡ told front → IsTrue (is_told (Say actor command reply)) → IsTrue (is_told (Say mate command answer)) → reply ≡ answer
+
+-- Where the same commands were answered, and nothing by "not yet", all answers are the same.
+abbrev pub AreAnsweredAlike : History → History → Type 0
+AreAnsweredAlike one other = asked one ≡ asked other → IsFalse (list_any is_wait one) → IsFalse (list_any is_wait other) → told one ≡ told other
+
+-- Two runs over the same problem, amounts and first rules. Their slices and counts of workers may differ.
+abbrev pub IsSameRun : (words others : List Text) → Sources → Sources → Type 0
+IsSameRun words others texts other_texts = IsSameQuestion (setting_beside (settings_in words) texts) (setting_beside (settings_in others) other_texts)

@@ -11,7 +11,7 @@ ghost use Rattle.universe_model.specs.Universes.{IsProblemOf};
 ghost use Rattle.resolve_cli.specs.Beginnings.{script_by};
 ghost use Rattle.resolve_cli.specs.Words.{names_in};
 ghost use Rattle.resolve_cli.specs.Reports.{World, world, scene};
-ghost use Rattle.resolve_cli.specs.Beside.{setting_for_all, IsSpeechBeside, IsDialogueBeside, IsRunBeside, AreFreeOfSchedule};
+ghost use Rattle.resolve_cli.specs.Beside.{setting_for_all, IsSpeechBeside, IsDialogueBeside, IsRunBeside, IsSameRun, AreFreeOfSchedule, AreAnsweredAlike};
 ghost use Rattle.resolve_cli.specs.Completeness.{IsWellProvided, EndsWell};
 ghost use Rattle.resolve_cli.specs.Sureness.{IsSure, IsFull};
 
@@ -191,11 +191,15 @@ pub fn run_session<
     }
 }
 
-/// A law: answers do not depend on which thread searched when. Two runs over the same words and texts, which were answered alike so
-/// far, "not yet" aside, answer the same command alike, "not yet" aside. Its contract is the law.
+/// A law: answers do not depend on which thread searched when, nor on how many did. Of two runs over the same problem, amounts and
+/// first rules, which were answered alike so far, "not yet" aside, the same command is answered alike, "not yet" aside (`step`). If
+/// they answer the same commands, and nothing by "not yet", they are answered alike from begin to end (`whole`).
 pub fn answers_are_free_of_schedule()
-    ensures { (words : List Text) (old new first last : World) (r q : Report) → (run : IsDialogueBeside words old new r) → (other : IsDialogueBeside words first last q)
-        → run.texts ≡ other.texts → AreFreeOfSchedule r.history.items q.history.items }
+    ensures step { (words others : List Text) (old new first last : World) (r q : Report) → (run : IsDialogueBeside words old new r) → (other : IsDialogueBeside others first last q)
+        → IsSameRun words others run.texts other.texts → AreFreeOfSchedule r.history.items q.history.items }
+    ensures whole { (words others : List Text) (old new first last : World) (r q : Report) → (run : IsDialogueBeside words old new r) → (other : IsDialogueBeside others first last q)
+        → IsSameRun words others run.texts other.texts → AreAnsweredAlike r.history.items q.history.items }
 {
     laws_session::answers_are_free_of_schedule();
+    laws_session::histories_are_answered_alike();
 }
