@@ -10,6 +10,7 @@ ghost use Rattle.universe_model.specs.Universes.{IsProblemOf};
 ghost use Rattle.resolve_cli.specs.Beginnings.{setting_by, script_by};
 ghost use Rattle.resolve_cli.specs.Words.{settings_in, names_in};
 ghost use Rattle.resolve_cli.specs.Reports.{World, world, scene, setting_in, IsSpeech, IsDialogue, IsRun};
+ghost use Rattle.resolve_cli.specs.Beside.{IsDialogueBeside, setting_beside};
 ghost use Rattle.resolve_cli.specs.Completeness.{IsWellProvided, EndsWell};
 ghost use Rattle.resolve_cli.specs.Sureness.{IsSure, IsFull};
 ghost use Rattle.resolve_cli.specs.Enumeration.{EnumeratesAtNoMore};
@@ -128,10 +129,12 @@ pub fn run_alone<F: Shelf, I: Source, O: Sink>(
 }
 
 /// A law: where a run answers "no more", and no rule stood then and at any solution before, the solutions that it had delivered are
-/// exactly the minimal ones, each once. Its contract is the law.
+/// exactly the minimal ones, each once: on one thread (`alone`), and while others search (`beside`). Its contract is the law.
 pub fn deliveries_are_minimal()
-    ensures { (words : List Text) (old new : World) (r : Report) → (run : IsDialogue words old new r)
+    ensures alone { (words : List Text) (old new : World) (r : Report) → (run : IsDialogue words old new r)
         → EnumeratesAtNoMore (setting_in (settings_in words) run.texts) r.history.items }
+    ensures beside { (words : List Text) (old new : World) (r : Report) → (run : IsDialogueBeside words old new r)
+        → EnumeratesAtNoMore (setting_beside (settings_in words) run.texts) r.history.items }
 {
     minimal_solutions_come_in_turn();
 }
