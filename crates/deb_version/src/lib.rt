@@ -41,12 +41,14 @@ impl<'a> Version<'a> {
         ensures parts { IfOk result (λ version. read text.now ≡ Some (record { epoch = version.epoch.now; upstream = version.upstream.now; revision = version.revision.now })) }
         ensures longest { IfErr result (λ bad. IsLongestBeginning text.now bad.at) }
     {
-        let has_epoch = text.contains(&b':');
-        let epoch = epoch_of(text);
-        let rest = rest_of(text);
-        let has_revision = rest.contains(&b'-');
-        let upstream = upstream_of(rest);
-        let revision = revision_of(rest);
+        let colon = first_colon(text);
+        let has_epoch = has_colon(text, colon);
+        let epoch = epoch_at(text, colon);
+        let rest = rest_at(text, colon);
+        let hyphen = behind_hyphen(rest);
+        let has_revision = has_hyphen(rest, hyphen);
+        let upstream = upstream_at(rest, hyphen);
+        let revision = revision_at(rest, hyphen);
         let is_version = (!has_epoch || is_number(epoch))
             && is_upstream(has_epoch, upstream)
             && (!has_revision || is_revision(revision));
@@ -78,41 +80,61 @@ fn behind_hyphen(rest: &[u8]) -> Option<usize>
     rest.iter().rev().position(|byte| *byte == b'-')
 }
 
+// Whether a colon was found.
+fn has_colon(text: &[u8], colon: Option<usize>) -> bool
+    requires { colon ≡ position is_colon text.now }
+    ensures { result ≡ list_any is_colon text.now }
+{
+    colon.is_some()
+}
+
+// Whether a hyphen was found.
+fn has_hyphen(rest: &[u8], hyphen: Option<usize>) -> bool
+    requires { hyphen ≡ position is_hyphen (reverse rest.now) }
+    ensures { result ≡ list_any is_hyphen rest.now }
+{
+    hyphen.is_some()
+}
+
 // What stands before the first colon, and nothing where there is none.
-fn epoch_of(text: &[u8]) -> &[u8]
+fn epoch_at(text: &[u8], colon: Option<usize>) -> &[u8]
+    requires { colon ≡ position is_colon text.now }
     ensures { result.now ≡ epoch_of text.now }
 {
-    match first_colon(text) {
+    match colon {
         Some(place) => &text[..place],
         None => &text[..0],
     }
 }
 
 // What stands behind the first colon, and all where there is none.
-fn rest_of(text: &[u8]) -> &[u8]
+fn rest_at(text: &[u8], colon: Option<usize>) -> &[u8]
+    requires { colon ≡ position is_colon text.now }
     ensures { result.now ≡ rest_of text.now }
 {
-    match first_colon(text) {
+    match colon {
         Some(place) => &text[place + 1..],
         None => text,
     }
 }
 
-// What stands before the last hyphen, and all where there is none.
-fn upstream_of(rest: &[u8]) -> &[u8]
+// What stands before the last hyphen, and all where there is none. `hyphen` is how many bytes stand behind it.
+fn upstream_at(rest: &[u8], hyphen: Option<usize>) -> &[u8]
+    requires { hyphen ≡ position is_hyphen (reverse rest.now) }
     ensures { result.now ≡ cond (list_any is_hyphen rest.now) (before_last is_hyphen rest.now) rest.now }
 {
-    match behind_hyphen(rest) {
+    match hyphen {
         Some(behind) => &rest[..rest.len() - behind - 1],
         None => rest,
     }
 }
 
 // What stands behind the last hyphen, and nothing where there is none.
-fn revision_of(rest: &[u8]) -> &[u8]
+fn revision_at(rest: &[u8], hyphen: Option<usize>) -> &[u8]
+    requires { hyphen ≡ position is_hyphen (reverse rest.now) }
     ensures { result.now ≡ cond (list_any is_hyphen rest.now) (after_last is_hyphen rest.now) [] }
 {
-    match behind_hyphen(rest) {
+    match hyphen {
         Some(behind) => &rest[rest.len() - behind..],
         None => &rest[..0],
     }
@@ -121,7 +143,7 @@ fn revision_of(rest: &[u8]) -> &[u8]
 fn is_revision_byte(byte: u8) -> bool
     ensures { result ≡ is_revision_byte byte }
 {
-    byte.is_ascii_alphanumeric() || byte == b'+' || byte == b'.' || byte == b'~'
+    matches!(byte, b'0'..=b'9' | b'A'..=b'Z' | b'a'..=b'z' | b'+' | b'.' | b'~')
 }
 
 fn is_upstream_byte(epoch: bool, byte: u8) -> bool
@@ -164,9 +186,10 @@ fn all_revision(bytes: &[u8]) -> bool
 fn longest_beginning(text: &[u8]) -> usize
     ensures { IsLongestBeginning text.now result }
 {
-    let epoch = epoch_of(text);
+    let colon = first_colon(text);
+    let epoch = epoch_at(text, colon);
     if is_number(epoch) {
-        epoch.len() + 1 + upstream_run(true, rest_of(text))
+        epoch.len() + 1 + upstream_run(true, rest_at(text, colon))
     } else {
         upstream_run(false, text)
     }

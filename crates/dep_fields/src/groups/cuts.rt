@@ -12,6 +12,7 @@ use super::Span;
 use crate::items::read_item;
 use crate::tokens::{Class, run_len, skip_blanks};
 use crate::{RelFault, RelKind};
+use memchr::memchr;
 
 // What stands before the first mark, and what stands behind it, if there is one.
 pub fn cut(text: &[u8], mark: u8) -> (&[u8], Option<&[u8]>)
@@ -20,7 +21,7 @@ pub fn cut(text: &[u8], mark: u8) -> (&[u8], Option<&[u8]>)
     ensures unmarked { has_none mark result.0.now ≡ true }
     ensures within { length result.0.now ≤ length text.now }
 {
-    match text.iter().position(|byte| *byte == mark) {
+    match memchr(mark, text) {
         Some(i) => (&text[..i], Some(&text[i + 1..])),
         None => (text, None),
     }

@@ -1,0 +1,14 @@
+use Rattle.std.proofs.Common.{◌∙◌, sym}
+use Rattle.deb_version.specs.Versions.{is_hyphen}
+use Rattle.deb_version.proofs.Cuts.{last_some, last_none}
+use Rattle.deb_version.proofs.upstream_at.Goals as goal
+
+pub returns-in-Some : goal.returns-in-Some
+returns-in-Some c =
+    let at = last_some is_hyphen c.args.rest.now c.in-Some.behind (sym c.in-Some.is ∙ c.requires) in
+    rw (at.0, sym at.1)
+
+pub returns-in-None : goal.returns-in-None
+returns-in-None c =
+    let none = last_none is_hyphen c.args.rest.now (sym c.in-None.is ∙ c.requires) in
+    rw none
