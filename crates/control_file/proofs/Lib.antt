@@ -2,6 +2,7 @@ pub mod Cuts
 pub mod Runs
 pub mod SlotMarks
 pub mod Bytes
+pub mod NameBytes
 pub mod Readings
 pub mod FieldsInOrder
 pub mod Parts

@@ -1,8 +1,10 @@
 -- What the passes over lines tell one another: how far they came, and what they passed.
-use Rattle.std.specs.Prelude.{◌≡◌, ℕ, ◌+◌, ◌<◌, ◌^◌, false, not, cond, List, [], ◌∷◌, ◌++◌, length, None, Some, IsTrue}
-use Rattle.std.specs.List.{list_all, before_first}
+use Rattle.std.specs.Prelude.{◌≡◌, ℕ, ◌+◌, ◌<◌, ◌^◌, ◌==◌, ◌&&◌, ◌||◌, nat_le, Bool, false, not, cond, List, [], ◌∷◌, ◌++◌, length, Option, None, Some, IsTrue}
+use Rattle.std.specs.List.{list_all, list_any, before_first}
 use Rattle.control_file.specs.declared.CtlFault.{CtlFault}
-use Rattle.control_file.specs.Text.{FieldText, Reading, Rest, is_blank, is_colon, begins_with_space, without_line_end, cut, numbered, lines_from, names_of, first_fault, fields_of}
+use Rattle.control_file.specs.declared.CtlKind.{CtlKind}
+use Rattle.control_file.specs.declared.CtlKind.TheVariants.{NoColon, BadName, Twice, ManyFields}
+use Rattle.control_file.specs.Text.{FieldText, Reading, Rest, is_blank, is_colon, is_name_byte, is_name, is_among, begins_with_space, without_line_end, cut, numbered, lines_from, names_of, first_fault, fields_of}
 use Rattle.control_file.specs.Answers.{is_paragraph_next}
 
 abbrev pub at_line : List ℕ → ℕ → Rest
@@ -15,6 +17,18 @@ faulty fault = record { paragraphs = []; fault = Some fault }
 -- the name of the field that begins on a line, if one does
 abbrev pub own_names : List ℕ → List (List ℕ)
 own_names bytes = cond (begins_with_space bytes) [] (before_first is_colon (without_line_end bytes) ∷ [])
+
+-- the bytes that may begin a name
+abbrev pub may_begin : ℕ → Bool
+may_begin b = is_name_byte b && not (b == 35 || b == 45)
+
+-- why there is no name before the first colon of a line that begins a field
+abbrev pub fault_before_colon : List ℕ → Option CtlKind
+fault_before_colon line = cond (not (list_any is_colon line)) (Some NoColon) (cond (not (is_name (before_first is_colon line))) (Some BadName) None)
+
+-- why a paragraph with fields of these names gets no field of one more
+abbrev pub fault_of_name : List (List ℕ) → List ℕ → Option CtlKind
+fault_of_name names name = cond (is_among name names) (Some Twice) (cond (nat_le 1024 (length names)) (Some ManyFields) None)
 
 -- The lines at the front of old were passed. front is their bytes, and rest is what is left; n and m are the numbers of their first lines.
 pub record Passed (n : ℕ) (old : List ℕ) (m : ℕ) (rest : List ℕ) (lines : List (List ℕ)) : Type 0 where

@@ -1,16 +1,17 @@
 //! Control files of Debian (Policy 5.1) as slices of their text: paragraphs, fields, and the first fault.
 #![tactic(auto)]
 
-ghost use Rattle.std.specs.Prelude.{◌≡◌, ◌<◌, ◌≤◌, ◌+◌, ◌-◌, ◌^◌, ◌++◌, ◌∷◌, [], Bool, ℕ, true, false, not, cond, Option, Some, None, IfSome, IfOk, IfErr, OnSome, MatchOption, MatchResult, length, take, drop, position, IsTrue, List, map, slice_get};
+ghost use Rattle.std.specs.Prelude.{◌≡◌, ◌<◌, ◌≤◌, ◌+◌, ◌-◌, ◌^◌, ◌++◌, ◌∷◌, [], Bool, ℕ, true, false, not, cond, Option, Some, None, IfSome, IfOk, IfErr, OnSome, MatchOption, MatchResult, length, take, drop, position, IsTrue, List, map, slice_get, get_or};
 ghost use Rattle.std.specs.List.{list_any, list_all, prefix_len, before_first};
+ghost use Rattle.ascii.specs.Texts.{begins};
 ghost use Rattle.std.specs.Option.{option_map};
 ghost use Rattle.std.specs.Str.{str_eq_ignore_ascii_case};
-ghost use Rattle.control_file.specs.Text.{Line, paragraphs_of, cut, without_last, without_line_end, is_space, is_colon, begins_with_space, is_blank, is_name_byte, is_name, is_among, trimmed_front, trimmed_end, fault_of_field, fault_of_line, whole, reading, reading_of, field_named};
+ghost use Rattle.control_file.specs.Text.{Line, paragraphs_of, cut, without_last, without_line_end, is_space, is_colon, begins_with_space, is_blank, is_name_byte, is_among, trimmed_front, trimmed_end, fault_of_line, whole, reading, reading_of, field_named};
 ghost use Rattle.control_file.specs.Answers.{answer_of, behind_first, Reads, Leaves, is_paragraph_next};
 ghost use Rattle.control_file.specs.Fields.{field_text};
 ghost use Rattle.control_file.specs.Laws.{ParagraphsStandIn, FirstFaultIsFirst, AreRunsOf};
 ghost use Rattle.control_file.specs.Slots.{slot_of};
-ghost use Rattle.control_file.specs.Passes.{IsFirstLine, own_names, SkipsBlank, SkipsContinued, Scans, TakesField, at_line, faulty};
+ghost use Rattle.control_file.specs.Passes.{IsFirstLine, own_names, may_begin, fault_before_colon, fault_of_name, SkipsBlank, SkipsContinued, Scans, TakesField, at_line, faulty};
 
 use ascii::is_space;
 use memchr::memchr;
@@ -97,18 +98,32 @@ fn is_name_byte(byte: u8) -> bool
     byte >= 33 && byte <= 126 && byte != b':'
 }
 
-fn is_all_name_bytes(name: &[u8]) -> bool
-    ensures { result ≡ list_all is_name_byte name.now }
+// How many bytes at the front of a line may stand in a name.
+fn name_length(line: &[u8]) -> usize
+    ensures run { result ≡ prefix_len is_name_byte line.now }
+    ensures within { result ≤ length line.now }
 {
-    name.iter().all(|byte| is_name_byte(*byte))
+    for (place, byte) in line.iter().enumerate() {
+        if !is_name_byte(*byte) {
+            return place;
+        }
+    }
+    line.len()
 }
 
-fn is_name(name: &[u8]) -> bool
-    ensures { result ≡ is_name name.now }
+fn is_colon_at(line: &[u8], place: usize) -> bool
+    ensures { result ≡ is_colon (get_or line.now place 0) }
 {
-    match name {
+    place < line.len() && line[place] == b':'
+}
+
+// Whether the first byte of a line may begin a name.
+fn begins_name(line: &[u8]) -> bool
+    ensures { result ≡ begins may_begin line.now }
+{
+    match line {
         [] => false,
-        [first, ..] => *first != b'#' && *first != b'-' && is_all_name_bytes(name),
+        [first, ..] => is_name_byte(*first) && *first != b'#' && *first != b'-',
     }
 }
 
@@ -128,16 +143,6 @@ fn first_colon(line: &[u8]) -> Option<usize>
     ensures { result ≡ position is_colon line.now }
 {
     line.iter().position(|byte| *byte == b':')
-}
-
-// What stands before the first colon, if there is one.
-fn before_colon(line: &[u8]) -> Option<&[u8]>
-    ensures { MatchOption result (list_any is_colon line.now ≡ false) (λ name. (list_any is_colon line.now ≡ true) × (name.now ≡ before_first is_colon line.now)) }
-{
-    match first_colon(line) {
-        Some(place) => Some(&line[..place]),
-        None => None,
-    }
 }
 
 // What stands before the first colon, or all where there is none.
@@ -240,42 +245,57 @@ impl<'a> Names<'a> {
         self.len
     }
 
-    fn contains(&self, name: &[u8]) -> bool
+    // Whether a name with this slot is there.
+    fn contains(&self, name: &[u8], slot: usize) -> bool
+        requires slot { slot ≡ slot_of name.now }
+        requires range { slot < 8192 }
         ensures { result ≡ is_among name.now self.now }
     {
-        if self.marks[slot(name)] != self.mark {
+        if self.marks[slot] != self.mark {
             return false;
         }
         is_any_same(&self.items[..self.len], name)
     }
 
-    fn push(&mut self, name: &'a [u8])
-        requires { length self.old < 1024 }
+    fn push(&mut self, name: &'a [u8], slot: usize)
+        requires few { length self.old < 1024 }
+        requires slot { slot ≡ slot_of name.now }
+        requires range { slot < 8192 }
         ensures { self.new ≡ self.old ++ name.now ∷ [] }
     {
         self.items[self.len] = name;
         self.len += 1;
-        self.marks[slot(name)] = self.mark;
+        self.marks[slot] = self.mark;
+    }
+
+    // Adds the name of a field, unless it is there or there are as many as a paragraph may have.
+    fn add(&mut self, name: &'a [u8]) -> Result<(), CtlKind>
+        ensures { MatchResult result (λ _. (fault_of_name self.old name.now ≡ None) × (self.new ≡ self.old ++ name.now ∷ [])) (λ kind. fault_of_name self.old name.now ≡ Some kind) }
+    {
+        let slot = slot(name);
+        if self.contains(name, slot) {
+            return Err(CtlKind::Twice);
+        }
+        if self.len() >= MOST_FIELDS {
+            return Err(CtlKind::ManyFields);
+        }
+        self.push(name, slot);
+        Ok(())
     }
 }
 
-// What stands before the first colon of a line that begins a field, or the line's fault.
-fn field_name<'a>(line: &'a [u8], earlier: &Names<'a>) -> Result<&'a [u8], CtlKind>
-    ensures { MatchResult result (λ name. (name.now ≡ before_first is_colon line.now) × (fault_of_field earlier.now line.now ≡ None) × (length earlier.now < 1024)) (λ kind. fault_of_field earlier.now line.now ≡ Some kind) }
+// What stands before the first colon of a line that begins a field, or why it is no field name.
+fn field_name(line: &[u8]) -> Result<&[u8], CtlKind>
+    ensures { MatchResult result (λ name. (name.now ≡ before_first is_colon line.now) × (fault_before_colon line.now ≡ None)) (λ kind. fault_before_colon line.now ≡ Some kind) }
 {
-    let Some(name) = before_colon(line) else {
-        return Err(CtlKind::NoColon);
-    };
-    if !is_name(name) {
-        return Err(CtlKind::BadName);
+    let len = name_length(line);
+    if is_colon_at(line, len) && begins_name(line) {
+        return Ok(&line[..len]);
     }
-    if earlier.contains(name) {
-        return Err(CtlKind::Twice);
+    match first_colon(line) {
+        Some(_) => Err(CtlKind::BadName),
+        None => Err(CtlKind::NoColon),
     }
-    if earlier.len() >= MOST_FIELDS {
-        return Err(CtlKind::ManyFields);
-    }
-    Ok(name)
 }
 
 // Takes a line that is not blank into its paragraph, or answers its fault.
@@ -288,11 +308,8 @@ fn take_line<'a>(line: &'a [u8], names: &mut Names<'a>) -> Result<(), CtlKind>
         }
         return Ok(());
     }
-    match field_name(without_line_end(line), names) {
-        Ok(name) => {
-            names.push(name);
-            Ok(())
-        }
+    match field_name(without_line_end(line)) {
+        Ok(name) => names.add(name),
         Err(kind) => Err(kind),
     }
 }

@@ -19,6 +19,6 @@ returns-then-self-slot c =
     let inside = c.self.inside in
     let now : Bor (List ℕ) → List ℕ = λ x. x.now in
     let none : nat_eq (get_or inside.marks (slot_of c.args.name.now) 0) inside.mark ≡ false =
-    ap (λ k. nat_eq (get_or inside.marks k 0) inside.mark) (sym c.slot.ensures.slot) ∙ (let other : nat_eq (get_or inside.marks c.slot.result 0) inside.mark ≡ false = grind (arith, nat_tests, c.if-self-slot.true) in other) in
+    ap (λ k. nat_eq (get_or inside.marks k 0) inside.mark) (sym c.requires.slot) ∙ (let other : nat_eq (get_or inside.marks c.args.slot 0) inside.mark ≡ false = grind (arith, nat_tests, c.if-self-slot.true) in other) in
     sym (none-marked inside.marks inside.mark c.args.name.now (map now (take inside.len inside.items)) c.self.invariant.1 none)
     ∙ ap (is_among c.args.name.now) c.self.view_is

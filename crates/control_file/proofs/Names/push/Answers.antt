@@ -15,14 +15,14 @@ invariant_of-self c =
     let room : length items ≡ 1024 = search rules in
     let most : len ≤ 1024 = c.self.invariant.0 in
     let count : length old ≡ len = sym (ap length c.self.view_is) ∙ length-map (take len items) now ∙ length-take-le len items (omega (arith, room, most)) in
-    let few : len < 1024 = omega (arith, count, c.requires) in
+    let few : len < 1024 = omega (arith, count, c.requires.few) in
     let are : AreMarked inside.marks inside.mark old = subst (λ names. AreMarked inside.marks inside.mark names) c.self.view_is c.self.invariant.1 in
     let whole : map now (take (len + 1) (slice_set items len c.args.name)) ≡ old ++ c.args.name.now ∷ [] =
     ap (map now) (take_more_set items len c.args.name (omega (arith, room, few)))
     ∙ map-append now (take len items) (c.args.name ∷ [])
     ∙ ap (λ names. names ++ c.args.name.now ∷ []) c.self.view_is in
-    let less : c.slot.result < length inside.marks = search rules in (
+    let less : c.args.slot < length inside.marks = search rules in (
       omega (arith, few),
-      subst (λ names. AreMarked (slice_set inside.marks c.slot.result inside.mark) inside.mark names) (sym whole)
-          (marked-more inside.marks inside.mark c.slot.result old c.args.name.now less c.slot.ensures.slot are),
+      subst (λ names. AreMarked (slice_set inside.marks c.args.slot inside.mark) inside.mark names) (sym whole)
+          (marked-more inside.marks inside.mark c.args.slot old c.args.name.now less c.requires.slot are),
     )
