@@ -80,7 +80,11 @@ fn is_all_space(bytes: &[u8]) -> bool
 fn is_blank(line: &[u8]) -> bool
     ensures { result ≡ is_blank line.now }
 {
-    is_all_space(without_line_end(line))
+    match line {
+        // most lines show by their first byte that they are not
+        [first, ..] if *first > b' ' => false,
+        _ => is_all_space(without_line_end(line)),
+    }
 }
 
 fn begins_with_space(text: &[u8]) -> bool
