@@ -1,5 +1,6 @@
 pub mod Cuts
 pub mod Runs
+pub mod TagsOfNames
 pub mod SlotMarks
 pub mod Bytes
 pub mod NameBytes

@@ -3,4 +3,4 @@ pub mod Answers
 pub mod Fields
 pub mod Passes
 pub mod Laws
-pub mod Slots
+pub mod Tags

@@ -1,7 +1,7 @@
 //! Control files of Debian (Policy 5.1) as slices of their text: paragraphs, fields, and the first fault.
 #![tactic(auto)]
 
-ghost use Rattle.std.specs.Prelude.{◌≡◌, ◌<◌, ◌≤◌, ◌+◌, ◌-◌, ◌^◌, ◌++◌, ◌∷◌, [], Bool, ℕ, true, false, not, cond, Option, Some, None, IfSome, IfOk, IfErr, OnSome, MatchOption, MatchResult, length, take, drop, position, IsTrue, List, map, slice_get, get_or};
+ghost use Rattle.std.specs.Prelude.{◌≡◌, ◌<◌, ◌≤◌, ◌+◌, ◌-◌, ◌%◌, ◌^◌, ◌++◌, ◌∷◌, [], Bool, ℕ, true, false, not, cond, Option, Some, None, IfSome, IfOk, IfErr, OnSome, MatchOption, MatchResult, length, take, drop, position, IsTrue, List, map, slice_get, get_or};
 ghost use Rattle.std.specs.List.{list_any, list_all, prefix_len, before_first};
 ghost use Rattle.ascii.specs.Texts.{begins};
 ghost use Rattle.std.specs.Option.{option_map};
@@ -10,7 +10,7 @@ ghost use Rattle.control_file.specs.Text.{Line, paragraphs_of, cut, without_last
 ghost use Rattle.control_file.specs.Answers.{answer_of, behind_first, Reads, Leaves, is_paragraph_next};
 ghost use Rattle.control_file.specs.Fields.{field_text};
 ghost use Rattle.control_file.specs.Laws.{ParagraphsStandIn, FirstFaultIsFirst, AreRunsOf};
-ghost use Rattle.control_file.specs.Slots.{slot_of};
+ghost use Rattle.control_file.specs.Tags.{tag_of};
 ghost use Rattle.control_file.specs.Passes.{IsFirstLine, own_names, may_begin, fault_before_colon, fault_of_name, SkipsBlank, SkipsContinued, Scans, TakesField, at_line, faulty};
 
 use ascii::is_space;
@@ -186,26 +186,35 @@ fn trimmed_end(text: &[u8]) -> &[u8]
     &text[..len]
 }
 
+// The tag of a name, the same for names that differ only in ASCII case. Other names rarely share one.
+fn tag(name: &[u8]) -> u64
+    ensures { result ≡ tag_of name.now }
+{
+    let mut tag = 0;
+    for byte in name {
+        tag = (tag * 314_159 + u64::from(byte.to_ascii_lowercase())) % (1 << 44);
+    }
+    tag
+}
+
 // How many slots names are marked in.
 const SLOTS: usize = 8192;
 
-// The slot of a name, the same for names that differ only in ASCII case.
-fn slot(name: &[u8]) -> usize
-    ensures slot { result ≡ slot_of name.now }
+// The slot of the names that have a tag.
+fn slot(tag: u64) -> usize
+    ensures slot { result ≡ tag % 8192 }
     ensures range { result < 8192 }
 {
-    let mut slot = 0;
-    for byte in name {
-        slot = (slot * 31 + usize::from(byte.to_ascii_lowercase())) % SLOTS;
-    }
-    slot
+    (tag % SLOTS as u64) as usize
 }
 
 // The names of a paragraph's fields so far, in a room that each paragraph uses anew. The slot of each of them has the mark,
-// so that a name without it is none of them.
+// so that a name without it is none of them. Each has its tag beside it too: where names share a slot, the tags alone are
+// looked through, many at a time.
 #[derive(Drop)]
 struct Names<'a> {
     items: [&'a [u8]; MOST_FIELDS],
+    tags: [u64; MOST_FIELDS],
     len: usize,
     marks: [u16; SLOTS],
     mark: u16,
@@ -218,9 +227,9 @@ impl<'a> Model for Names<'a> {
 
     ghost view = { λ names. map (λ name. name.now) (take names.len names.items) };
 
-    ghost use Rattle.control_file.specs.Slots.{AreMarked};
+    ghost use Rattle.control_file.specs.Tags.{AreTagged, AreMarked};
 
-    ghost invariant = { λ names. (names.len ≤ 1024) × AreMarked names.marks names.mark (map (λ name. name.now) (take names.len names.items)) };
+    ghost invariant = { λ names. (names.len ≤ 1024) × AreTagged names.tags names.len (map (λ name. name.now) (take names.len names.items)) × AreMarked names.marks names.mark (map (λ name. name.now) (take names.len names.items)) };
 }
 
 impl<'a> Names<'a> {
@@ -229,6 +238,7 @@ impl<'a> Names<'a> {
     {
         Names {
             items: [&[]; MOST_FIELDS],
+            tags: [0; MOST_FIELDS],
             len: 0,
             marks: [0; SLOTS],
             mark: 0,
@@ -249,41 +259,43 @@ impl<'a> Names<'a> {
         self.len
     }
 
-    // Whether a name with this slot is there.
-    fn contains(&self, name: &[u8], slot: usize) -> bool
-        requires slot { slot ≡ slot_of name.now }
-        requires range { slot < 8192 }
+    // Whether a name with this tag is there.
+    fn contains(&self, name: &[u8], tag: u64) -> bool
+        requires { tag ≡ tag_of name.now }
         ensures { result ≡ is_among name.now self.now }
     {
-        if self.marks[slot] != self.mark {
+        if self.marks[slot(tag)] != self.mark {
+            return false;
+        }
+        if !self.tags[..self.len].contains(&tag) {
             return false;
         }
         is_any_same(&self.items[..self.len], name)
     }
 
-    fn push(&mut self, name: &'a [u8], slot: usize)
+    fn push(&mut self, name: &'a [u8], tag: u64)
         requires few { length self.old < 1024 }
-        requires slot { slot ≡ slot_of name.now }
-        requires range { slot < 8192 }
+        requires tag { tag ≡ tag_of name.now }
         ensures { self.new ≡ self.old ++ name.now ∷ [] }
     {
         self.items[self.len] = name;
+        self.tags[self.len] = tag;
         self.len += 1;
-        self.marks[slot] = self.mark;
+        self.marks[slot(tag)] = self.mark;
     }
 
     // Adds the name of a field, unless it is there or there are as many as a paragraph may have.
     fn add(&mut self, name: &'a [u8]) -> Result<(), CtlKind>
         ensures { MatchResult result (λ _. (fault_of_name self.old name.now ≡ None) × (self.new ≡ self.old ++ name.now ∷ [])) (λ kind. fault_of_name self.old name.now ≡ Some kind) }
     {
-        let slot = slot(name);
-        if self.contains(name, slot) {
+        let tag = tag(name);
+        if self.contains(name, tag) {
             return Err(CtlKind::Twice);
         }
         if self.len() >= MOST_FIELDS {
             return Err(CtlKind::ManyFields);
         }
-        self.push(name, slot);
+        self.push(name, tag);
         Ok(())
     }
 }
