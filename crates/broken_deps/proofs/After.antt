@@ -1,6 +1,6 @@
 -- The list after a choice, put together from what stays open and what the choice opens.
-use Rattle.std.proofs.Common.{◌≡◌, ℕ, List, [], ◌++◌, true, false, cond, ap, sym, ◌∙◌, nat_lt, append-nil}
-use Rattle.std.specs.List.{filter}
+use Rattle.std.proofs.Common.{◌≡◌, ℕ, List, [], ◌∷◌, ◌++◌, ◌||◌, Bool, true, false, cond, refl, ap, sym, ◌∙◌, nat_lt, append-nil}
+use Rattle.std.specs.List.{filter, list_any}
 use Rattle.lists.specs.Below.{below}
 use Rattle.lists.specs.Sets.{with}
 use Rattle.resolver_model.specs.Problems.{Problem, version_count, dependency_count, package_of, state, is_open}
@@ -30,3 +30,19 @@ open_after_leave p set larger c list low h =
     let near = nearby p c (state p set (package_of p c)) in
     let all : candidates_after p set c ≡ open_deps p set = ap (λ r. open_deps p set ++ cond r near []) low ∙ append-nil (open_deps p set) in
     h ∙ ap (filter (is_open p larger)) (sym all)
+
+-- whether a list has an item
+abbrev has_some : List ℕ → Bool
+has_some [] = false
+has_some (x ∷ xs) = true
+
+any_filtered : (f : ℕ → Bool) (xs : List ℕ) → list_any f xs ≡ has_some (filter f xs)
+any_filtered f [] = refl
+any_filtered f (x ∷ xs) = elim (f x) as (λ r. (r || list_any f xs) ≡ has_some (cond r (x ∷ filter f xs) (filter f xs))) [ true ↦ refl | false ↦ any_filtered f xs ]
+
+-- of the dependencies that were open, one stays so where one is open at the larger set
+pub still_any : (p : Problem) (set larger : List ℕ) (c : ℕ) → larger ≡ with set c → list_any (stays_open p larger c) (open_deps p set) ≡ list_any (is_open p larger) (open_deps p set)
+still_any p set larger c l =
+    any_filtered (stays_open p larger c) (open_deps p set)
+    ∙ ap has_some (still_open p set larger c (open_deps p set) (filter (stays_open p larger c) (open_deps p set)) l refl refl)
+    ∙ sym (any_filtered (is_open p larger) (open_deps p set))

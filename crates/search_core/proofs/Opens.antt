@@ -1,6 +1,6 @@
 -- What a list of those that pass says of the first one, and what a larger set has beyond a smaller one.
 use Rattle.std.proofs.Common.{inl, inr, ◌≡◌, ◌<◌, ℕ, List, [], ◌∷◌, ◌≤◌, Bool, true, false, cond, not, ◌&&◌, ◌||◌, nat_eq, nat_lt, Some, None, refl, ap, sym, subst, ◌∙◌, length, get_or, arith}
-use Rattle.std.specs.List.{find, filter, list_all}
+use Rattle.std.specs.List.{find, filter, list_all, list_any}
 use Rattle.std.proofs.lemmas.Bool.{and_parts, not-true, not-false}
 use Rattle.std.proofs.lemmas.Bool.Decides.{nat_tests}
 use Rattle.lists.proofs.Sets.{list_all-has, has_none_upto}
@@ -29,6 +29,19 @@ some_passes f (x ∷ xs) h =
     elim (f x) as (λ r. 0 < length (cond r (x ∷ filter f xs) (filter f xs)) → (cond r (Some x) (find f xs) ≡ Some (get_or (cond r (x ∷ filter f xs) (filter f xs)) 0 0)) × ((not r && list_all (λ x. not (f x)) xs) ≡ false)) [
       | true ↦ λ e. (refl, refl)
       | false ↦ λ e. some_passes f xs e
+    ] h
+
+false_and : (a b : Bool) → b ≡ false → (a && b) ≡ false
+false_and true b e = e
+false_and false b e = refl
+
+-- where one of some numbers passes, not all of all fail
+pub any_within : (f g : ℕ → Bool) (xs : List ℕ) → list_any f (filter g xs) ≡ true → list_all (λ x. not (f x)) xs ≡ false
+any_within f g [] h = absurd (cc)
+any_within f g (x ∷ xs) h =
+    elim (g x) as (λ r. list_any f (cond r (x ∷ filter g xs) (filter g xs)) ≡ true → (not (f x) && list_all (λ y. not (f y)) xs) ≡ false) [
+      | true ↦ λ k. elim (f x) as (λ q. (q || list_any f (filter g xs)) ≡ true → (not q && list_all (λ y. not (f y)) xs) ≡ false) [ true ↦ λ _. refl | false ↦ λ m. any_within f g xs m ] k
+      | false ↦ λ k. false_and (not (f x)) (list_all (λ y. not (f y)) xs) (any_within f g xs k)
     ] h
 
 -- Beyond a set, that with one choice more has at most this choice.
