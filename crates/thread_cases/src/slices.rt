@@ -1,19 +1,12 @@
 // A worker's slices, before and after a round is asked to stop.
+use crate::sharing::{UNIVERSE, count_entries, share};
 use basis::Basis;
 use case_problems::read_basis;
 use choice_set::NoMemory;
-use search_core::{Session, may_begin};
 use search_thread::{OpenGate, SliceEnd, slice};
-use session_cell::SessionCell;
 use std::alloc::Global;
 use std::sync::Wait;
 use std::test::Fail;
-use user_rules::Rules;
-
-// Package a with versions 1 and 2, b with 1, 2 and 3, and c with 1. Version 1 of a needs some b, its version 2 needs b from
-// version 2 on, and version 3 of b conflicts with c. The starts are a 2, b 1 and c 1; removals cost, and going back to a 1.
-const UNIVERSE: &str =
-    "packages 1 2 2\npackages 1 3 1\npackages 1 1 1\nneeds 1 4 5 6\nneeds 2 5 6\nneeds 6 7\nadds 0 1 3 1 7 1\nadds 0 1 1 1\n";
 
 // How the slices of a worker end, and how many entries there are then.
 #[derive(Drop)]
@@ -30,13 +23,7 @@ fn slices_of_a_worker<H: Wait>(
     alloc: Global,
     basis: &Basis,
 ) -> Result<Option<Ends>, NoMemory> {
-    let rules = Rules::new(alloc);
-    if !may_begin(basis, &rules, 5000, 2) {
-        return Ok(None);
-    }
-    let session = Session::new(alloc, basis, rules, 5000, 2)?;
-    let (cell, mut passes) = SessionCell::new(alloc, session, 2)?;
-    let (Some(mut worker), Some(mut talker)) = (passes.pop(), passes.pop()) else {
+    let Some((cell, mut talker, mut worker)) = share(alloc, basis)? else {
         return Ok(None);
     };
     cell.ask_stop(&mut talker, 1);
@@ -44,11 +31,7 @@ fn slices_of_a_worker<H: Wait>(
     let made = slice(rt, alloc, &cell, basis, &mut worker, &OpenGate, 2, 1);
     let ready = slice(rt, alloc, &cell, basis, &mut worker, &OpenGate, 2, 10);
     let still = slice(rt, alloc, &cell, basis, &mut worker, &OpenGate, 2, 10);
-    let (Ok(()), Ok(())) = (passes.push(talker), passes.push(worker)) else {
-        return Ok(None);
-    };
-    let session = cell.close(passes);
-    let entries = session.history().len();
+    let entries = count_entries(alloc, cell, talker, worker)?;
     Ok(Some(Ends {
         stopped,
         made,
