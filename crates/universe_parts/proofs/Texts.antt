@@ -1,7 +1,8 @@
 -- Lists of names as the program keeps them, and as texts.
-use Rattle.std.proofs.Common.{◌≡◌, ℕ, ◌+◌, List, [], ◌∷◌, ◌++◌, Bool, true, false, not, cond, ◌||◌, if◌then◌else◌, Some, None, refl, sym, ap, ◌∙◌, length, nat_lt}
+use Rattle.std.proofs.Common.{arith, ◌≡◌, ℕ, ◌+◌, List, [], ◌∷◌, ◌++◌, Bool, true, false, not, cond, ◌||◌, if◌then◌else◌, Some, None, refl, sym, ap, ◌∙◌, length, nat_lt}
 use Rattle.std.proofs.lemmas.List.{length-map}
-use Rattle.control_file.proofs.Bytes.{position_some}
+use Rattle.std.proofs.lemmas.List.Sums.{prefix_len-le-length}
+use Rattle.lists.proofs.Tests.{position_none, position_none_past, position_some}
 use Rattle.std.specs.List.{list_any, prefix_len, position, position_or_len}
 use Rattle.std.specs.Global.{Vec}
 use Rattle.ascii.specs.Texts.{is_same}
@@ -18,7 +19,7 @@ prefix_len-texts p (k ∷ ks) = ap (λ n. cond (p k.items) (1 + n) 0) (prefix_le
 pub position_or_len-texts : (name : List ℕ) (ks : List (Vec ℕ)) → position_or_len (is_kept name) ks ≡ position_or_len (is_same name) (texts ks)
 position_or_len-texts name ks = prefix_len-texts (λ other. not (is_same name other)) ks
 
-length-texts : (ks : List (Vec ℕ)) → length (texts ks) ≡ length ks
+pub length-texts : (ks : List (Vec ℕ)) → length (texts ks) ≡ length ks
 length-texts ks = length-map ks (λ (v : Vec ℕ). v.items)
 
 pub position-texts : (name : List ℕ) (ks : List (Vec ℕ)) → position (is_kept name) ks ≡ position (is_same name) (texts ks)
@@ -34,7 +35,7 @@ list_any-texts name (k ∷ ks) = ap (λ b. is_same name k.items || b) (list_any-
 abbrev pub with_kept : List (Vec ℕ) → Vec ℕ → List (Vec ℕ)
 with_kept ks k = if list_any (is_kept k.items) ks then ks else ks ++ k ∷ []
 
-texts-append : (ks : List (Vec ℕ)) (k : Vec ℕ) → texts (ks ++ k ∷ []) ≡ texts ks ++ k.items ∷ []
+pub texts-append : (ks : List (Vec ℕ)) (k : Vec ℕ) → texts (ks ++ k ∷ []) ≡ texts ks ++ k.items ∷ []
 texts-append [] k = refl
 texts-append (x ∷ xs) k = ap (λ rest. x.items ∷ rest) (texts-append xs k)
 
@@ -54,6 +55,19 @@ with_name-if b names name there = ap (λ c. if c then names else names ++ name �
 pub with_name-found : (names : List (List ℕ)) (name : List ℕ) (n : ℕ) → position (is_same name) names ≡ Some n → names ≡ with_name names name
 with_name-found names name n found =
     with_name-if (list_any (is_same name) names) names name ((position_some (is_same name) names n (sym found)).0)
+
+-- a name that has none is not there, and goes to the end
+with_name-else : (b : Bool) (names : List (List ℕ)) (name : List ℕ) → b ≡ false → names ++ name ∷ [] ≡ (if b then names else names ++ name ∷ [])
+with_name-else b names name none = ap (λ c. if c then names else names ++ name ∷ []) (sym none)
+
+pub with_name-new : (names : List (List ℕ)) (name : List ℕ) → position (is_same name) names ≡ None → names ++ name ∷ [] ≡ with_name names name
+with_name-new names name none = with_name-else (list_any (is_same name) names) names name (position_none (is_same name) names (sym none))
+
+pub position_or_len-none : (names : List (List ℕ)) (name : List ℕ) → position (is_same name) names ≡ None → length names ≡ position_or_len (is_same name) names
+position_or_len-none names name none =
+    let past = position_none_past (is_same name) names (sym none) in
+    let within = prefix_len-le-length (λ other. not (is_same name other)) names in
+    omega arith
 
 pub position_or_len-found : (names : List (List ℕ)) (name : List ℕ) (n : ℕ) → position (is_same name) names ≡ Some n → n ≡ position_or_len (is_same name) names
 position_or_len-found names name n found = (position_some (is_same name) names n (sym found)).1

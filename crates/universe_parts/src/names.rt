@@ -3,18 +3,21 @@
 ghost use Rattle.std.specs.Prelude.{◌≡◌, ◌<◌, [], ◌∷◌, ◌++◌, List, ℕ, length, is_ok, if◌then◌else◌, IfOk, OnOk, slice_get};
 ghost use Rattle.std.specs.List.{position, position_or_len};
 ghost use Rattle.ascii.specs.Texts.{is_same};
-ghost use Rattle.universe_parts.specs.Names.{with_name};
+ghost use Rattle.universe_parts.specs.Names.{AreNumbered, with_name};
 ghost use Rattle.lists.specs.Distinct.{distinct};
 
 use choice_set::NoMemory;
-use indexmap::IndexSet;
 use std::alloc::Global;
+use std::collections::BTreeMap;
 use std::marker::Model;
 
-/// Package names (Debian Policy 5.6.1), numbered from 0 in the order in which they were first added.
+/// Package names (Debian Policy 5.6.1), numbered from 0 in the order in which they were first added. However names are chosen,
+/// one is found among many by halves.
 #[derive(Drop)]
 pub struct Names {
-    set: IndexSet<Vec<u8>>,
+    list: Vec<Vec<u8>>,
+    numbers: BTreeMap<Vec<u8>, usize>,
+    ghost numbered: { AreNumbered list.items numbers.entries },
 }
 
 impl Model for Names {
@@ -23,7 +26,7 @@ impl Model for Names {
 
     ghost Value = { List (List ℕ) };
 
-    ghost view = { λ n. texts n.set.keys };
+    ghost view = { λ n. texts n.list.items };
 }
 
 impl Names {
@@ -32,7 +35,8 @@ impl Names {
         ensures { result ≡ [] }
     {
         Names {
-            set: IndexSet::new(alloc),
+            list: Vec::new(alloc),
+            numbers: BTreeMap::new(alloc),
         }
     }
 
@@ -40,14 +44,14 @@ impl Names {
     pub fn len(&self) -> usize
         ensures { result ≡ length self.now }
     {
-        self.set.len()
+        self.list.len()
     }
 
     /// The number of a name, or `None` where it was not added.
     pub fn number_of(&self, name: &[u8]) -> Option<usize>
         ensures { result ≡ position (is_same name.now) self.now }
     {
-        self.set.get_index_of(name)
+        self.numbers.get(name).copied()
     }
 
     /// The name with a number.
@@ -55,7 +59,7 @@ impl Names {
         requires { number < length self.now }
         ensures { slice_get self.now number ≡ Some result.now }
     {
-        self.set.as_slice()[number].as_slice()
+        self.list[number].as_slice()
     }
 
     /// Adds a name, unless it is there, and gives its number. So the names are the distinct ones of all that were added,
@@ -68,8 +72,12 @@ impl Names {
         if let Some(number) = self.number_of(name) {
             return Ok(number);
         }
-        let copy = Vec::from_slice(alloc, name)?;
-        let (number, _) = self.set.insert_full(copy)?;
+        let number = self.list.len();
+        let key = Vec::from_slice(alloc, name)?;
+        let kept = Vec::from_slice(alloc, name)?;
+        self.list.reserve(1)?;
+        self.numbers.insert(key, number)?;
+        self.list.push_reserved(kept);
         Ok(number)
     }
 }

@@ -1,32 +1,16 @@
--- A name is found, or goes to the end of the keys.
-use Rattle.std.proofs.Common.{◌≡◌, ◌∙◌, ap, sym, List, ℕ}
-use Rattle.std.specs.List.{position_or_len}
+-- A name is found, or goes to the end of the list.
+use Rattle.std.proofs.Common.{rules, ◌≡◌, ◌∙◌, ap, subst, sym, List, [], ◌∷◌, ◌++◌, None, ℕ, length}
+use Rattle.std.specs.Global.{Vec}
+use Rattle.std.specs.List.{position}
 use Rattle.ascii.specs.Texts.{is_same}
-use Rattle.universe_parts.specs.Names.{texts, with_name}
-use Rattle.universe_parts.proofs.Texts.{position_or_len-texts, texts-with_kept, with_name-found}
+use Rattle.universe_parts.specs.Names.{AreNumbered, texts, with_name}
+use Rattle.universe_parts.proofs.Numbering.{numbered-push}
+use Rattle.universe_parts.proofs.Texts.{length-texts, position_or_len-none, texts-append, with_name-found, with_name-new}
 use Rattle.universe_parts.proofs.Distinct.{with_name-distinct}
 use Rattle.universe_parts.proofs.names.Names.add.Goals as goal
 
 pub returns-in-Some-clause-added : goal.returns-in-Some-clause-added
 returns-in-Some-clause-added c = with_name-found c.args.self.now c.args.name.now c.in-Some.number (sym c.number_of.ensures ∙ c.in-Some.is)
-
-pub returns-clause-number : goal.returns-clause-number
-returns-clause-number c =
-    c.in_ok-number.ensures.index
-    ∙ position_or_len-texts c.in_ok-copy.copy.items c.self.inside.set.keys
-    ∙ ap (λ (names : List (List ℕ)). position_or_len (is_same c.in_ok-copy.copy.items) names) c.self.view_is
-    ∙ ap (λ (name : List ℕ). position_or_len (is_same name) c.args.self.now) c.in_ok-copy.ensures.items
-
--- the kept names are those with the name
-added : (c : goal.In_ok-number) → texts c.insert_full.new.self.keys ≡ with_name c.args.self.now c.args.name.now
-added c =
-    ap texts c.in_ok-number.ensures.keys
-    ∙ texts-with_kept c.self.inside.set.keys c.in_ok-copy.copy
-    ∙ ap (λ (names : List (List ℕ)). with_name names c.in_ok-copy.copy.items) c.self.view_is
-    ∙ ap (λ (name : List ℕ). with_name c.args.self.now name) c.in_ok-copy.ensures.items
-
-pub returns-clause-added : goal.returns-clause-added
-returns-clause-added c = added c
 
 pub returns-in-Some-clause-read : goal.returns-in-Some-clause-read
 returns-in-Some-clause-read c =
@@ -35,6 +19,43 @@ returns-in-Some-clause-read c =
     ∙ ap (λ (names : List (List ℕ)). with_name names c.args.name.now) are
     ∙ with_name-distinct read c.args.name.now
 
+-- the kept names are those with the name
+added : (c : goal.After-self-2-1) → texts c.push_reserved.new.self.items ≡ with_name c.args.self.now c.args.name.now
+added c =
+    ap texts (c.push_reserved.ensures.items ∙ ap (λ (ks : List (Vec ℕ)). ks ++ c.in_ok-kept.kept ∷ []) c.reserve.ensures.items)
+    ∙ texts-append c.self.inside.list.items c.in_ok-kept.kept
+    ∙ ap (λ (names : List (List ℕ)). names ++ c.in_ok-kept.kept.items ∷ []) c.self.view_is
+    ∙ ap (λ (name : List ℕ). c.args.self.now ++ name ∷ []) c.in_ok-kept.ensures.items
+    ∙ with_name-new c.args.self.now c.args.name.now (sym c.in_default.ensures)
+
+pub returns-clause-number : goal.returns-clause-number
+returns-clause-number c =
+    let long : c.len-number.result ≡ length c.self.inside.list.items = search rules in
+    long
+    ∙ sym (length-texts c.self.inside.list.items)
+    ∙ ap (λ (names : List (List ℕ)). length names) c.self.view_is
+    ∙ position_or_len-none c.args.self.now c.args.name.now (sym c.in_default.ensures)
+
+pub returns-clause-added : goal.returns-clause-added
+returns-clause-added c = added c
+
 pub returns-clause-read : goal.returns-clause-read
 returns-clause-read c =
     λ read are. added c ∙ ap (λ (names : List (List ℕ)). with_name names c.args.name.now) are ∙ with_name-distinct read c.args.name.now
+
+pub invariant_of-self-inside-2 : goal.invariant_of-self-inside-2
+invariant_of-self-inside-2 c =
+    let list = c.self.inside.list.items in
+    let es = c.self.inside.numbers.entries in
+    let key = c.in_ok-key.key in
+    let kept = c.in_ok-kept.kept in
+    let long : c.len-number.result ≡ length list = search rules in
+    let none : position (is_same kept.items) (texts list) ≡ None =
+    ap (λ (name : List ℕ). position (is_same name) (texts list)) c.in_ok-kept.ensures.items
+    ∙ ap (position (is_same c.args.name.now)) c.self.view_is
+    ∙ sym c.in_default.ensures in (
+      subst (λ (ks : List (Vec ℕ)). AreNumbered ks c.insert.new.self.entries) (sym (c.push_reserved.ensures.items ∙ ap (λ (ks : List (Vec ℕ)). ks ++ kept ∷ []) c.reserve.ensures.items))
+          (subst (λ (fs : List (Vec ℕ × ℕ)). AreNumbered (list ++ kept ∷ []) fs) (sym c.in_ok-insert.ensures.entries)
+          (numbered-push list es key kept c.len-number.result (c.in_ok-key.ensures.items ∙ sym c.in_ok-kept.ensures.items) (long ∙ sym (length-texts list)) none c.self.inside.numbered)),
+      tt,
+    )
