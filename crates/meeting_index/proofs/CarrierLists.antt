@@ -163,6 +163,12 @@ slice_get-past n (v ∷ vs) rest zero le = absurd (omega arith)
 slice_get-past n (v ∷ vs) rest (suc k) le =
     slice_get-past (n + 1) vs rest k (omega arith) ∙ ap (slice_get rest) (let less : k - length vs ≡ suc k - length (v ∷ vs) = omega arith in less)
 
+-- whether a number is found by one of several
+pub has-found : (find : ℕ → List ℕ) (numbers : List ℕ) (c : ℕ) → has (flat_map find numbers) c ≡ list_any (λ m. has (find m) c) numbers
+has-found find [] c = refl
+has-found find (m ∷ ms) c =
+    list_any-append (λ x. nat_eq x c) (find m) (flat_map find ms) ∙ ap (λ b. has (find m) c || b) (has-found find ms c)
+
 -- what the carriers of an item's name find is what is carried
 pub found-carried : (native : List ℕ) (vs : List Version) (item : Relationship) (listed : List Carrier) (numbers : List ℕ) → is_plain native item.arch ≡ true
     → listed ≡ carriers native vs → numbers ≡ numbers_of (is_named item.name) (carriers native vs)

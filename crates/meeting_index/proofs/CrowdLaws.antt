@@ -4,7 +4,8 @@ use Rattle.std.specs.List.{filter, list_any}
 use Rattle.std.specs.Map.{lookup}
 use Rattle.std.specs.HashMap.Eq.{lookup_congr}
 use Rattle.std.specs.BTreeSet.{insert_key}
-use Rattle.std.specs.Ordering.{nat_cmp, ordering_then}
+use Rattle.std.specs.Cmp.Lexicographic.{slice_cmp}
+use Rattle.std.specs.Ordering.{is_eq, nat_cmp, ordering_then}
 use Rattle.std.specs.declared.cmp.Ordering.{Ordering}
 use Rattle.std.specs.declared.cmp.Ordering.TheVariants.{Less, Equal, Greater}
 use Rattle.std.proofs.lemmas.Cmp.{nat_list_eq_equiv}
@@ -24,8 +25,10 @@ use Rattle.dep_fields.specs.Relationships.{VersionBound, bound_of, parts_of}
 use Rattle.universe_model.specs.Meeting.{is_provided_within}
 use Rattle.universe_model.proofs.Orders.{order-total}
 use Rattle.meeting_index.specs.Crowds.{carried_number, carried_order, carried_parts, crowd_has, fits_as, has_fitting, is_crowd, is_past, kept_has, passes_with, version_parts}
-use Rattle.meeting_index.specs.Named.{has_same, kept, numbers_at}
-use Rattle.meeting_index.specs.declared.named.NamedNumbers.{NamedNumbers}
+use Rattle.meeting_index.specs.Named.{has_same}
+use Rattle.meeting_index.specs.Tables.{numbers_at}
+use Rattle.meeting_index.specs.declared.table.NamedNumbers.{NamedNumbers}
+use Rattle.meeting_index.proofs.NamedRuns.{is_eq-same, same-bytes}
 use Rattle.meeting_index.specs.declared.carried.Carried.{Carried}
 use Rattle.meeting_index.specs.declared.crowd.Crowd.{Crowd}
 use Rattle.meeting_index.specs.declared.named.Name.{Name}
@@ -104,6 +107,27 @@ has-range r bound xs old c e =
     (list_any-map (λ n. nat_eq n c) carried_number (filter r xs)
     ∙ any-range (λ y. nat_eq y.number c) r xs
     ∙ any-same (λ y. r y && nat_eq y.number c) (fits_as bound c) (λ y. ap (λ b. b && nat_eq y.number c) (e y)) xs)
+
+-- ---- what is found by a name in order
+
+abbrev pub name_order : Name → Name → Ordering
+name_order a b = slice_cmp nat_cmp a.bytes.now b.bytes.now
+
+pub lookup-same : {X : Type 0} (q : Name) (es : List (Name × X)) → lookup (λ k. is_eq (name_order q k)) es ≡ lookup (has_same q) es
+lookup-same q [] = refl
+lookup-same q (e ∷ es) =
+    ap (λ b. cond b (Some e.1) (lookup (λ k. is_eq (name_order q k)) es)) (is_eq-same q.bytes.now e.0.bytes.now)
+    ∙ ap (cond (has_same q e.0) (Some e.1)) (lookup-same q es)
+
+-- what a name has after one got something
+pub updated-same : {X : Type 0} (k q : Name) (v : X) (es fs : List (Name × X))
+    → lookup (λ x. is_eq (name_order q x)) fs ≡ cond (is_eq (name_order k q)) (Some v) (lookup (λ x. is_eq (name_order q x)) es)
+    → lookup (has_same q) fs ≡ cond (has_same k q) (Some v) (lookup (has_same q) es)
+updated-same k q v es fs now =
+    sym (lookup-same q fs)
+    ∙ now
+    ∙ ap (λ b. cond b (Some v) (lookup (λ x. is_eq (name_order q x)) es)) (is_eq-same k.bytes.now q.bytes.now)
+    ∙ ap (cond (has_same k q) (Some v)) (lookup-same q es)
 
 -- ---- a crowd at a name that had none
 
@@ -189,7 +213,7 @@ apart-cases : (named : NamedNumbers) (k q : Name) (rest old b : Bool) → has_sa
     → old ≡ (old || (b && rest))
 apart-cases named k q rest old true e few many =
     absurd (let both : false ≡ true = sym few
-    ∙ ap (λ o. is_crowd (kept o)) (lookup_congr has_same (λ x y z. nat_list_eq_equiv.congr x.bytes.now y.bytes.now z.bytes.now) named.by_name.entries k q e)
+    ∙ ap (λ bytes. is_crowd (numbers_at named bytes)) (same-bytes k.bytes.now q.bytes.now e)
     ∙ many in cc)
 apart-cases named k q rest old false e few many = or-comm false old
 

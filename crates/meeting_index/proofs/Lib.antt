@@ -1,5 +1,6 @@
 pub mod CarrierLists
 pub mod CrowdLaws
 pub mod CrowdRanges
-pub mod NewNames
+pub mod NamedRuns
 pub mod Numbers
+pub mod Shares

@@ -1,7 +1,7 @@
 -- Names that many carry, and their carriers in the order of their versions.
 use Rattle.std.specs.Prelude.{◌≡◌, ℕ, Bool, true, false, ◌&&◌, ◌||◌, List, length, nat_eq, nat_lt, Option, Some, None}
 use Rattle.std.specs.List.{list_any}
-use Rattle.std.specs.HashMap.{get_by}
+use Rattle.std.specs.Map.{lookup}
 use Rattle.std.specs.Ordering.{nat_cmp, on, then_cmp}
 use Rattle.std.specs.declared.cmp.Ordering.{Ordering}
 use Rattle.ascii.specs.Texts.{is_same}
@@ -12,12 +12,12 @@ use Rattle.dep_fields.specs.Operators.{holds}
 use Rattle.dep_fields.specs.Relationships.{VersionBound}
 use Rattle.lists.specs.Sets.{has}
 use Rattle.meeting_index.specs.Carriers.{Carrier, is_named}
-use Rattle.meeting_index.specs.Named.{numbers_at}
+use Rattle.meeting_index.specs.Tables.{numbers_at}
 use Rattle.meeting_index.specs.declared.carried.Carried.{Carried}
 use Rattle.meeting_index.specs.declared.crowd.Crowd.{Crowd}
 use Rattle.meeting_index.specs.declared.crowds.Crowds.{Crowds}
 use Rattle.meeting_index.specs.declared.named.Name.{Name}
-use Rattle.meeting_index.specs.declared.named.NamedNumbers.{NamedNumbers}
+use Rattle.meeting_index.specs.declared.table.NamedNumbers.{NamedNumbers}
 
 abbrev pub version_parts : Version → Parts
 version_parts v = parts v.text.now
@@ -63,7 +63,7 @@ kept_has (Some crowd) bound c = crowd_has crowd bound c
 -- ---- crowds by their names
 
 abbrev pub crowds_have : Crowds → List ℕ → Option VersionBound → ℕ → Bool
-crowds_have crowds bytes bound c = kept_has (get_by (λ (name : Name). is_same bytes name.bytes.now) crowds.by_name) bound c
+crowds_have crowds bytes bound c = kept_has (lookup (λ (name : Name). is_same bytes name.bytes.now) crowds.by_name.entries) bound c
 
 -- whether a name has too many carriers to look through them one by one
 abbrev pub is_crowd : List ℕ → Bool

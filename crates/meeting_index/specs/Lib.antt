@@ -1,8 +1,12 @@
 pub mod CarriedLaws
 pub mod Carriers
 pub mod Crowds
+pub mod Hashes
 pub mod IndexFields
 pub mod Indexes
 pub mod Named
+pub mod NamedLaws
 pub mod Numbers
 pub mod Provided
+pub mod Starts
+pub mod Tables

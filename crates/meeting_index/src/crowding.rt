@@ -10,12 +10,13 @@ ghost use Rattle.universe_model.specs.Lists.{map_from};
 ghost use Rattle.universe_parts.specs.Listed.{version_listed};
 ghost use Rattle.meeting_index.specs.Carriers.{own};
 ghost use Rattle.meeting_index.specs.Crowds.{HasMore, crowds_have, is_crowd, meets_under, passes_with, version_parts};
-ghost use Rattle.meeting_index.specs.Named.{numbers_at};
+ghost use Rattle.meeting_index.specs.Tables.{numbers_at};
 ghost use Rattle.meeting_index.specs.Provided.{carrier_of};
 
 use crate::crowds::Crowds;
-use crate::named::{Name, NamedNumbers};
+use crate::named::Name;
 use crate::provided::Provided;
+use crate::table::NamedNumbers;
 use choice_set::NoMemory;
 use deb_version::Version;
 use std::alloc::Global;

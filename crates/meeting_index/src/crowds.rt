@@ -2,7 +2,7 @@
 
 ghost use Rattle.std.specs.Prelude.{◌≡◌, ℕ, false, ◌&&◌, ◌||◌, nat_eq, None, Option, OnOk};
 ghost use Rattle.std.specs.Option.{option_map};
-ghost use Rattle.std.specs.HashMap.{get_by};
+ghost use Rattle.std.specs.Map.{lookup};
 ghost use Rattle.ascii.specs.Texts.{is_same};
 ghost use Rattle.dep_fields.specs.Relationships.{VersionBound, bound_of};
 ghost use Rattle.lists.specs.Sets.{has};
@@ -15,12 +15,12 @@ use choice_set::NoMemory;
 use deb_version::Version;
 use dep_fields::Op;
 use std::alloc::Global;
-use std::collections::HashMap;
+use std::collections::BTreeMap;
 
 /// The carriers of names that many carry.
 #[derive(Drop)]
 pub struct Crowds<'a> {
-    by_name: HashMap<Name<'a>, Crowd<'a>>,
+    by_name: BTreeMap<Name<'a>, Crowd<'a>>,
 }
 
 impl<'a> Crowds<'a> {
@@ -29,7 +29,7 @@ impl<'a> Crowds<'a> {
         ensures { (name : Name) (bound : Option VersionBound) (c : ℕ) → crowds_have result name.bytes.now bound c ≡ false }
     {
         Crowds {
-            by_name: HashMap::new(alloc),
+            by_name: BTreeMap::new(alloc),
         }
     }
 
@@ -69,20 +69,20 @@ pub fn add_crowd<'a>(
 }
 
 // The crowd of a name.
-fn find<'x, 'a>(by_name: &'x HashMap<Name<'a>, Crowd<'a>>, name: &'a [u8]) -> Option<&'x Crowd<'a>>
-    ensures { option_map (λ crowd. crowd.now) result ≡ get_by (λ (other : Name). is_same name.now other.bytes.now) by_name.now }
+fn find<'x, 'a>(by_name: &'x BTreeMap<Name<'a>, Crowd<'a>>, name: &'a [u8]) -> Option<&'x Crowd<'a>>
+    ensures { option_map (λ crowd. crowd.now) result ≡ lookup (λ (other : Name). is_same name.now other.bytes.now) by_name.now.entries }
 {
     by_name.get(&Name { bytes: name })
 }
 
 // Puts a crowd at a name that has none.
 fn put<'a>(
-    by_name: &mut HashMap<Name<'a>, Crowd<'a>>,
+    by_name: &mut BTreeMap<Name<'a>, Crowd<'a>>,
     name: Name<'a>,
     crowd: Crowd<'a>,
 ) -> Result<(), NoMemory>
-    requires { get_by (has_same name) by_name.old ≡ None }
-    ensures { OnOk result ((other : Name) (bound : Option VersionBound) (c : ℕ) → kept_has (get_by (has_same other) by_name.new) bound c ≡ (kept_has (get_by (has_same other) by_name.old) bound c || (has_same name.entry other && crowd_has crowd.entry bound c))) }
+    requires { lookup (has_same name) by_name.old.entries ≡ None }
+    ensures { OnOk result ((other : Name) (bound : Option VersionBound) (c : ℕ) → kept_has (lookup (has_same other) by_name.new.entries) bound c ≡ (kept_has (lookup (has_same other) by_name.old.entries) bound c || (has_same name.entry other && crowd_has crowd.entry bound c))) }
 {
     by_name.insert(name, crowd)?;
     Ok(())

@@ -12,5 +12,6 @@ mod items;
 mod named;
 mod naming;
 mod provided;
+mod table;
 
 pub use index::MeetingIndex;

@@ -1,91 +1,131 @@
-// Numbers that are found by a name.
+// Names, and numbers that they have.
 
-ghost use Rattle.std.specs.Prelude.{◌≡◌, ◌++◌, ◌∷◌, [], None, OnOk, if◌then◌else◌};
-ghost use Rattle.std.specs.Hash as fed;
-ghost use Rattle.std.specs.HashMap.{get_by};
-ghost use Rattle.ascii.specs.Texts.{is_same};
-ghost use Rattle.meeting_index.specs.Named.{has_same, kept, numbers_at};
-ghost use borrow.Author.Rules.{rules};
+ghost use Rattle.std.specs.Prelude.{◌≡◌};
+ghost use Rattle.std.specs.Cmp.Lexicographic.{slice_cmp};
+ghost use Rattle.std.specs.Ordering.{nat_cmp};
+ghost use Rattle.meeting_index.specs.Hashes.{hash_of};
 
-use choice_set::NoMemory;
-use std::alloc::Global;
-use std::collections::HashMap;
-use std::hash::{Hash, Hasher};
+use std::cmp::Ordering;
+use std::hash::{FoldHasher, Hasher};
 
 /// A name, lent from a text.
-#[derive(Clone, Copy, PartialEq, Eq)]
+#[derive(Clone, Copy, PartialEq, Eq, PartialOrd, Ord)]
 pub struct Name<'a> {
     pub bytes: &'a [u8],
 }
 
-impl Hash for Name<'_> {
-    ghost hash_input = { λ n. fed.str n.bytes.now };
-
-    ghost respects_eq = { Prim.search rules };
-
-    fn hash<H: Hasher>(&self, state: &mut H) {
-        state.write(self.bytes);
-        state.write_u8(0xff);
-    }
+/// A name, lent from a text, that has a number. They are ordered by the hashes of their names, which mostly tell them apart,
+/// and then by the names: however names are chosen, one of them is found among many by halves.
+#[derive(Clone, Copy)]
+pub struct Named<'a> {
+    hash: u64,
+    pub bytes: &'a [u8],
+    pub number: u32,
+    ghost hashed: { hash ≡ hash_of bytes.now },
 }
 
-/// Numbers by name, in the order in which they were added.
-#[derive(Drop)]
-pub struct NamedNumbers<'a> {
-    by_name: HashMap<Name<'a>, Vec<u32>>,
+fn hash_of(bytes: &[u8]) -> u64
+    ensures { result ≡ hash_of bytes.now }
+{
+    let mut hasher = FoldHasher::default();
+    hasher.write(bytes);
+    hasher.finish()
 }
 
-impl<'a> NamedNumbers<'a> {
-    /// No numbers.
-    pub fn new(alloc: Global) -> NamedNumbers<'a>
-        ensures { (name : Name) → numbers_at result name.bytes.now ≡ [] }
+// How two texts compare by their bytes. Both lifetimes are cut to one.
+fn compare_bytes<'x>(a: &'x [u8], b: &'x [u8]) -> Ordering
+    ensures { result ≡ slice_cmp nat_cmp a.now b.now }
+{
+    Ord::cmp(&a, &b)
+}
+
+impl<'a> Named<'a> {
+    ghost use Rattle.std.specs.Prelude.{◌<◌};
+    ghost use Rattle.meeting_index.specs.Named.{named_order, share_of};
+
+    /// A name with a number.
+    pub fn new(bytes: &'a [u8], number: u32) -> Named<'a>
+        ensures bytes { result.bytes.now ≡ bytes.now }
+        ensures number { result.number ≡ number }
     {
-        NamedNumbers {
-            by_name: HashMap::new(alloc),
+        Named {
+            hash: hash_of(bytes),
+            bytes,
+            number,
         }
     }
 
-    /// Adds a number at a name.
-    pub fn add(&mut self, alloc: Global, name: &'a [u8], number: u32) -> Result<(), NoMemory>
-        ensures { OnOk result ((other : Name) → numbers_at self.new other.bytes.now ≡ numbers_at self.old other.bytes.now ++ (if is_same name.now other.bytes.now then number ∷ [] else [])) }
+    /// Which of 65,536 shares of all hashes its hash is in; the shares are in order.
+    pub fn share(&self) -> usize
+        ensures share { result ≡ share_of self.now }
+        ensures range { result < 65536 }
     {
-        let name = Name { bytes: name };
-        if let Some(numbers) = self.by_name.get_mut(&name) {
-            numbers.push(number)?;
-            return Ok(());
+        (self.hash >> 48) as usize
+    }
+
+    /// How it compares with another one, whatever their numbers are.
+    pub fn order(&self, other: &Named<'_>) -> Ordering
+        ensures { result ≡ named_order self.now other.now }
+    {
+        match self.hash.cmp(&other.hash) {
+            Ordering::Equal => compare_bytes(self.bytes, other.bytes),
+            unequal => unequal,
         }
-        let mut numbers = Vec::new(alloc);
-        numbers.push(number)?;
-        put(&mut self.by_name, name, numbers)
-    }
-
-    /// The numbers at a name.
-    pub fn at<'x>(&'x self, name: &'x [u8]) -> &'x [u32]
-        ensures { result.now ≡ numbers_at self.now name.now }
-    {
-        find(&self.by_name, name)
     }
 }
 
-// The numbers at a name. Both lifetimes are cut to one, so that the name may be lent from any text.
-fn find<'x>(by_name: &'x HashMap<Name<'x>, Vec<u32>>, name: &'x [u8]) -> &'x [u32]
-    ensures { result.now ≡ kept (get_by (λ (other : Name). is_same name.now other.bytes.now) by_name.now) }
-{
-    match by_name.get(&Name { bytes: name }) {
-        Some(numbers) => numbers.as_slice(),
-        None => &[],
+impl PartialEq for Named<'_> {
+    ghost use Rattle.std.specs.Cmp.{eq_by_cmp_equiv, partial_equiv_from_equiv};
+    ghost use Rattle.std.specs.Ordering.{eq_by_cmp};
+    ghost use Rattle.meeting_index.specs.Named.{named_order};
+    ghost use Rattle.meeting_index.specs.NamedLaws.{named_order-total};
+
+    ghost eq = { eq_by_cmp named_order };
+
+    ghost laws = { partial_equiv_from_equiv (eq_by_cmp_equiv named_order-total) };
+
+    fn eq(&self, other: &Self) -> bool {
+        self.order(other).is_eq()
     }
 }
 
-// Puts numbers at a name that has none.
-fn put<'a>(
-    by_name: &mut HashMap<Name<'a>, Vec<u32>>,
-    name: Name<'a>,
-    numbers: Vec<u32>,
-) -> Result<(), NoMemory>
-    requires { get_by (has_same name) by_name.old ≡ None }
-    ensures { OnOk result ((other : Name) → kept (get_by (has_same other) by_name.new) ≡ kept (get_by (has_same other) by_name.old) ++ (if has_same name.entry other then numbers.items else [])) }
-{
-    by_name.insert(name, numbers)?;
-    Ok(())
+impl Eq for Named<'_> {
+    ghost use Rattle.std.specs.Cmp.{eq_by_cmp_equiv};
+    ghost use Rattle.meeting_index.specs.NamedLaws.{named_order-total};
+
+    ghost laws = { eq_by_cmp_equiv named_order-total };
+}
+
+impl PartialOrd for Named<'_> {
+    ghost use Rattle.std.specs.Prelude.{refl};
+    ghost use Rattle.std.specs.Cmp.{partial_order_from_agreeing_total};
+    ghost use Rattle.std.specs.Ordering.{as_partial_cmp};
+    ghost use Rattle.meeting_index.specs.Named.{named_order};
+    ghost use Rattle.meeting_index.specs.NamedLaws.{named_order-total};
+
+    ghost partial_cmp = { as_partial_cmp named_order };
+
+    ghost laws = { partial_order_from_agreeing_total named_order named_order-total (λ x y. refl) (λ x y. refl) };
+
+    fn partial_cmp(&self, other: &Self) -> Option<Ordering> {
+        Some(self.order(other))
+    }
+}
+
+impl Ord for Named<'_> {
+    ghost use Rattle.std.specs.Prelude.{refl};
+    ghost use Rattle.meeting_index.specs.Named.{named_order};
+    ghost use Rattle.meeting_index.specs.NamedLaws.{named_order-total};
+
+    ghost cmp = { named_order };
+
+    ghost total = { named_order-total };
+
+    ghost matches_partial_cmp = { λ x y. refl };
+
+    ghost matches_eq = { λ x y. refl };
+
+    fn cmp(&self, other: &Self) -> Ordering {
+        self.order(other)
+    }
 }

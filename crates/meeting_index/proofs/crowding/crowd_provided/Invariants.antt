@@ -2,7 +2,7 @@ use Rattle.std.proofs.Common.{◌≡◌, ℕ, true, ◌||◌, map, drop, Option}
 use Rattle.std.specs.List.{list_any}
 use Rattle.dep_fields.specs.Relationships.{VersionBound}
 use Rattle.meeting_index.specs.Crowds.{crowds_have, is_crowd, meets_under}
-use Rattle.meeting_index.specs.Named.{numbers_at}
+use Rattle.meeting_index.specs.Tables.{numbers_at}
 use Rattle.meeting_index.specs.Provided.{carrier_of}
 use Rattle.meeting_index.specs.declared.named.Name.{Name}
 use Rattle.meeting_index.proofs.crowding.crowd_provided.Given as goal

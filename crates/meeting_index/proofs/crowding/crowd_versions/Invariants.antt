@@ -3,7 +3,7 @@ use Rattle.std.specs.List.{list_any}
 use Rattle.dep_fields.specs.Relationships.{VersionBound}
 use Rattle.meeting_index.specs.Carriers.{own}
 use Rattle.meeting_index.specs.Crowds.{crowds_have, is_crowd, meets_under}
-use Rattle.meeting_index.specs.Named.{numbers_at}
+use Rattle.meeting_index.specs.Tables.{numbers_at}
 use Rattle.meeting_index.specs.declared.named.Name.{Name}
 use Rattle.universe_model.specs.Lists.{map_from}
 use Rattle.universe_parts.specs.Listed.{version_listed}

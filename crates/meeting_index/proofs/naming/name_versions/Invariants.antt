@@ -1,6 +1,6 @@
 use Rattle.std.proofs.Common.{◌≡◌, ◌++◌, map, drop}
 use Rattle.meeting_index.specs.Carriers.{is_named, own}
-use Rattle.meeting_index.specs.Named.{numbers_at}
+use Rattle.meeting_index.specs.Named.{numbers_in}
 use Rattle.meeting_index.specs.declared.named.Name.{Name}
 use Rattle.meeting_index.specs.Numbers.{numbers_from}
 use Rattle.universe_model.specs.Lists.{map_from, numbers_of}
@@ -11,6 +11,6 @@ use Rattle.meeting_index.proofs.naming.name_versions.Given as goal
 abbrev pub invariant-loop-version : goal.invariant-loop-version
 invariant-loop-version l = record {
   counted : l.number ≡ l.version-index;
-  found : (name : Name) → numbers_at l.named name.bytes.now ++ numbers_from l.version-index (is_named name.bytes.now) (map_from own l.version-index (map version_listed (drop l.version-index l.versions)))
-      ≡ numbers_at l.initial.named name.bytes.now ++ numbers_of (is_named name.bytes.now) (map_from own 0 (map version_listed l.versions));
+  found : (name : Name) → numbers_in l.names.items name.bytes.now ++ numbers_from l.version-index (is_named name.bytes.now) (map_from own l.version-index (map version_listed (drop l.version-index l.versions)))
+      ≡ numbers_in l.initial.names.items name.bytes.now ++ numbers_of (is_named name.bytes.now) (map_from own 0 (map version_listed l.versions));
 }

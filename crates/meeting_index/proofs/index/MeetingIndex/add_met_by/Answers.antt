@@ -1,17 +1,17 @@
 -- The carriers of the item's name find what is carried.
-use Rattle.std.proofs.Common.{◌≡◌, ◌∙◌, sym, ap, map, ◌++◌, ◌||◌, true, false, nat_eq}
-use Rattle.std.specs.List.{flat_map, slice_get}
+use Rattle.std.proofs.Common.{◌≡◌, ◌∙◌, refl, sym, ap, map, ℕ, ◌++◌, ◌||◌, true, false, nat_eq}
+use Rattle.std.specs.List.{flat_map, list_any, slice_get}
 use Rattle.std.proofs.lemmas.List.Folds.{list_any-append}
 use Rattle.std.proofs.lemmas.Result.{on_ok_weaker}
 use Rattle.lists.specs.Sets.{has}
 use Rattle.dep_fields.specs.Relationships.{meaning}
-use Rattle.meeting_index.specs.Carriers.{own, carriers, carried, met_under}
+use Rattle.meeting_index.specs.Carriers.{own, carriers, carried, is_named, met_under}
 use Rattle.meeting_index.specs.Crowds.{is_crowd}
 use Rattle.meeting_index.specs.Indexes.{Indexed}
 use Rattle.meeting_index.specs.Provided.{carrier_of}
-use Rattle.meeting_index.proofs.CarrierLists.{found-carried, has-none, has-plain}
+use Rattle.meeting_index.proofs.CarrierLists.{found-carried, has-found, has-none, has-plain}
 use Rattle.meeting_index.proofs.CrowdLaws.{or-none}
-use Rattle.universe_model.specs.Lists.{map_from}
+use Rattle.universe_model.specs.Lists.{map_from, numbers_of}
 use Rattle.universe_parts.specs.Listed.{version_listed}
 use Rattle.universe_model.specs.Meeting.{is_plain}
 use Rattle.meeting_index.proofs.index.MeetingIndex.add_met_by.Goals as goal
@@ -49,10 +49,17 @@ returns c =
     let listed = map_from own 0 vs ++ map carrier_of c.as_slice.result.now in
     let plain : is_plain native item.arch ≡ true = sym c.is_plain.ensures ∙ c.if-not-is_plain.false in
     let all : listed ≡ carriers native vs = ap (λ ps. map_from own 0 vs ++ ps) (ap (map carrier_of) c.as_slice.ensures.value ∙ c.self.invariant.provided) in
-    let found : flat_map (λ number. met_under item.rel (slice_get listed number)) c.at-numbers.result.now ≡ carried native vs item =
-    found-carried native vs item listed c.at-numbers.result.now plain all (c.at-numbers.ensures ∙ c.self.invariant.named (record { bytes = c.args.item.now.name })) in
+    let find = λ (number : ℕ). met_under item.rel (slice_get listed number) in
+    let named = numbers_of (is_named item.name) (carriers native vs) in
+    let found : flat_map find named ≡ carried native vs item = found-carried native vs item listed named plain all refl in
     let seen : carried native vs item ≡ carried c.args.self.now.native c.args.self.now.versions item =
     ap (λ (i : Indexed). carried i.native i.versions item) c.self.view_is in
     on_ok_weaker c.add_met.result (λ added n.
-    ap (λ numbers. has numbers n) (added ∙ ap (λ numbers. c.args.met.now.items ++ numbers) (found ∙ seen))
-    ∙ list_any-append (λ x. nat_eq x n) c.args.met.now.items (carried c.args.self.now.native c.args.self.now.versions item)) c.add_met.ensures
+    ap (λ numbers. has numbers n) added
+    ∙ list_any-append (λ x. nat_eq x n) c.args.met.now.items (flat_map find c.at-numbers.result.now)
+    ∙ ap (λ b. has c.args.met.now.items n || b)
+    (has-found find c.at-numbers.result.now n
+    ∙ ap (list_any (λ m. has (find m) n)) c.at-numbers.ensures
+    ∙ c.self.invariant.named (record { bytes = c.args.item.now.name }) (λ m. has (find m) n)
+    ∙ sym (has-found find named n)
+    ∙ ap (λ numbers. has numbers n) (found ∙ seen))) c.add_met.ensures
