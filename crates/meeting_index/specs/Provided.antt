@@ -1,15 +1,15 @@
 -- What the carriers of the program are.
-use Rattle.std.specs.Prelude.{List, ◌++◌, map, option_map}
-use Rattle.dep_fields.specs.Relationships.{bound_of}
+use Rattle.std.specs.Prelude.{List, ◌++◌, map}
 use Rattle.meeting_index.specs.Carriers.{Carrier, own}
+use Rattle.meeting_index.specs.Crowds.{passes_with}
+use Rattle.meeting_index.specs.Given.{given_parts}
 use Rattle.meeting_index.specs.declared.found.Carriers.{Carriers}
-use Rattle.meeting_index.specs.declared.provided.Provided.{Provided}
+use Rattle.meeting_index.specs.declared.given.Provided.{Provided}
 use Rattle.universe_model.specs.Lists.{map_from}
-use Rattle.universe_model.specs.Meeting.{is_provided_within}
 use Rattle.universe_parts.specs.Listed.{version_listed}
 
 abbrev pub carrier_of : Provided → Carrier
-carrier_of p = record { version = p.version; name = p.name.now; passes = λ bound. is_provided_within bound (option_map bound_of p.rel) }
+carrier_of p = record { version = p.version; name = p.name.now; passes = λ bound. passes_with (given_parts p.given.now) bound }
 
 -- the versions, and then what they provide
 abbrev pub carriers_listed : Carriers → List Carrier

@@ -14,8 +14,8 @@ ghost use Rattle.meeting_index.specs.Tables.{numbers_at};
 ghost use Rattle.meeting_index.specs.Provided.{carrier_of};
 
 use crate::crowds::Crowds;
+use crate::given::Provided;
 use crate::named::Name;
-use crate::provided::Provided;
 use crate::table::NamedNumbers;
 use choice_set::NoMemory;
 use deb_version::Version;
@@ -112,12 +112,7 @@ fn crowd_item<'a>(
 ) -> Result<(), NoMemory>
     ensures { OnOk result (HasMore named.now crowds.old (carrier_of item.now ∷ []) crowds.new) }
 {
-    match item.rel {
-        None => crowd_name(alloc, crowds, named, item.name, None, item.version),
-        Some((_, version)) => {
-            crowd_name(alloc, crowds, named, item.name, Some(version), item.version)
-        }
-    }
+    crowd_name(alloc, crowds, named, item.name, item.given(), item.version)
 }
 
 // Adds a carrier of a name, if that is crowded.

@@ -8,13 +8,15 @@ ghost use Rattle.universe_model.specs.Versions.{is_release_with};
 ghost use Rattle.universe_model.specs.Meeting.{is_within};
 ghost use Rattle.universe_parts.specs.Listed.{version_listed};
 ghost use Rattle.meeting_index.specs.Carriers.{met_under, own};
+ghost use Rattle.meeting_index.specs.Crowds.{passes_with};
+ghost use Rattle.meeting_index.specs.Given.{given_parts};
 ghost use Rattle.meeting_index.specs.Provided.{carrier_of, carriers_listed};
 
-use crate::provided::Provided;
+use crate::given::Provided;
 use choice_set::NoMemory;
 use deb_version::Version;
 use dep_fields::Op;
-use universe_parts::{ListedVersion, is_provided_within, is_within};
+use universe_parts::{ListedVersion, is_within};
 
 /// The versions and what they provide. The carriers are numbered: the versions first, by their own numbers.
 #[derive(Clone, Copy)]
@@ -78,10 +80,23 @@ fn own_found(
 fn provided_found(bound: Option<(Op, Version<'_>)>, provided: &Provided<'_>) -> Option<u32>
     ensures { option_to_list result ≡ met_under (option_map bound_of bound.entry) (Some (carrier_of provided.now)) }
 {
-    if is_provided_within(bound, provided.rel) {
+    if is_given_within(bound, provided) {
         Some(provided.version)
     } else {
         None
+    }
+}
+
+// Whether what is provided is within a bound. What is provided in no version is within none.
+fn is_given_within(bound: Option<(Op, Version<'_>)>, provided: &Provided<'_>) -> bool
+    ensures { result ≡ passes_with (given_parts provided.now.given.now) (option_map bound_of bound.entry) }
+{
+    if bound.is_none() {
+        return true;
+    }
+    match provided.given() {
+        None => false,
+        Some(version) => is_within(bound, &version),
     }
 }
 

@@ -7,6 +7,7 @@ mod crowd;
 mod crowding;
 mod crowds;
 mod found;
+mod given;
 mod index;
 mod items;
 mod named;

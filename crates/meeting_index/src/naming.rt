@@ -13,8 +13,8 @@ ghost use Rattle.meeting_index.specs.Provided.{carrier_of};
 ghost use Rattle.meeting_index.specs.declared.named.Name.{Name};
 ghost use Rattle.meeting_index.specs.Numbers.{numbers_from};
 
+use crate::given::Provided;
 use crate::named::Named;
-use crate::provided::Provided;
 use crate::table::NamedNumbers;
 use choice_set::NoMemory;
 use std::alloc::Global;

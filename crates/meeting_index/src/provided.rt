@@ -11,19 +11,11 @@ ghost use Rattle.universe_parts.specs.Listed.{version_listed};
 ghost use Rattle.meeting_index.specs.Carriers.{all_provided, has_plain_arch, provided, provided_by, provided_in};
 ghost use Rattle.meeting_index.specs.Provided.{carrier_of};
 
+use crate::given::Provided;
 use choice_set::NoMemory;
-use deb_version::Version;
-use dep_fields::{Group, Item, Op, SoundGroups};
+use dep_fields::{Group, Item, SoundGroups};
 use std::alloc::Global;
 use universe_parts::{ListedVersion, is_plain};
-
-/// An item of Provides: the number of the version that provides it, its name and its bound.
-#[derive(Clone, Copy)]
-pub struct Provided<'a> {
-    pub rel: Option<(Op, Version<'a>)>,
-    pub name: &'a [u8],
-    pub version: u32,
-}
 
 /// What all versions provide, in order. Items with another architecture are left out.
 pub fn list_provided<'a>(
@@ -100,11 +92,6 @@ fn add_item<'a>(
     if !is_plain(native, item.arch) {
         return Ok(());
     }
-    let provided = Provided {
-        rel: item.rel,
-        name: item.name,
-        version: number,
-    };
-    list.push(provided)?;
+    list.push(Provided::new(item, number))?;
     Ok(())
 }
