@@ -1,6 +1,7 @@
 pub mod CarrierLists
 pub mod CrowdLaws
 pub mod CrowdRanges
+pub mod Finding
 pub mod NamedRuns
 pub mod Numbers
 pub mod Shares

@@ -1,20 +1,18 @@
 -- In order of hash and bytes the names with the same bytes stand in one run.
-use Rattle.std.proofs.Common.{◌≡◌, ℕ, zero, suc, ◌+◌, ◌-◌, ◌<◌, ◌≤◌, arith, List, [], ◌∷◌, ◌++◌, Bool, true, false, cond, ◌&&◌, ◌||◌, nat_eq, refl, sym, ap, ◌∙◌, length, length-drop, map, get_or, subst, take, drop}
+use Rattle.std.proofs.Common.{◌≡◌, ℕ, zero, suc, ◌+◌, ◌-◌, ◌<◌, ◌≤◌, arith, List, [], ◌∷◌, Bool, true, false, cond, ◌&&◌, ◌||◌, nat_eq, refl, sym, ap, ◌∙◌, length, length-drop, map, get_or, subst, take, drop}
 use Rattle.std.specs.List.{filter, list_any}
 use Rattle.std.specs.List.Sorted.{IsPermutation, IsSorted, IsNonDecreasingBy, IsPartitionedBy, IsPartitionPoint}
 use Rattle.std.specs.Ordering.{is_eq, is_le, is_lt, nat_cmp, ordering_index, ordering_then}
-use Rattle.std.specs.Cmp.{IsTotalOrder}
 use Rattle.std.specs.Cmp.Lexicographic.{slice_cmp, pointwise}
 use Rattle.std.specs.declared.cmp.Ordering.{Ordering}
 use Rattle.std.specs.declared.cmp.Ordering.TheVariants.{Less, Equal, Greater}
-use Rattle.std.proofs.lemmas.Cmp.{same_from_slice_cmp, tied_itself, nat_list_cmp_total, nat_cmp_total, nat_list_eq_equiv}
+use Rattle.std.proofs.lemmas.Cmp.{same_from_slice_cmp, tied_itself, nat_cmp_total}
 use Rattle.std.proofs.lemmas.Bool.{and_parts, eqb-true}
 use Rattle.std.proofs.lemmas.Bool.Decides.{nat_tests}
 use Rattle.std.proofs.lemmas.List.{get_or-drop, get_or-take, length-take-le, take_rest}
 use Rattle.std.proofs.lemmas.List.Sorted.{searchable_from_sorted, list_any-IsPermutation}
 use Rattle.ascii.specs.Texts.{is_same}
-use Rattle.lists.proofs.Tests.{list_any-map}
-use Rattle.meeting_index.specs.Named.{has_bytes, named_bytes, named_hash, named_number, named_order, numbers_in}
+use Rattle.meeting_index.specs.Named.{has_bytes, named_number, named_order, numbers_in}
 use Rattle.meeting_index.specs.Hashes.{hash_of}
 use Rattle.meeting_index.specs.NamedLaws.{named_order-total}
 use Rattle.meeting_index.specs.declared.named.Named.{Named}

@@ -2,10 +2,10 @@
 use Rattle.std.proofs.Common.{◌≡◌, ℕ, zero, suc, ◌+◌, ◌-◌, ◌<◌, ◌≤◌, arith, List, [], ◌∷◌, Bool, true, false, cond, nat_eq, nat_lt, ◌/◌, refl, sym, ap, ◌∙◌, length, length-drop, get_or, subst, take, drop}
 use Rattle.std.specs.List.{filter}
 use Rattle.std.specs.List.Sorted.{IsSorted, IsNonDecreasingBy}
-use Rattle.std.specs.Ordering.{is_lt, nat_cmp, ordering_then}
+use Rattle.std.specs.Ordering.{is_lt, ordering_then}
 use Rattle.std.specs.declared.cmp.Ordering.{Ordering}
 use Rattle.std.specs.declared.cmp.Ordering.TheVariants.{Less, Equal, Greater}
-use Rattle.std.proofs.lemmas.Bool.{lt-ltb, ltb-false, ltb-true}
+use Rattle.std.proofs.lemmas.Bool.{ltb-false, ltb-true}
 use Rattle.std.proofs.lemmas.List.{get_or-drop, get_or_read}
 use Rattle.std.proofs.lemmas.List.Sorted.{ranks_by, sorted_far}
 use Rattle.meeting_index.specs.Hashes.{hash_of}

@@ -1,6 +1,7 @@
 pub mod CarriedLaws
 pub mod Carriers
 pub mod Crowds
+pub mod Finding
 pub mod Given
 pub mod Hashes
 pub mod IndexFields

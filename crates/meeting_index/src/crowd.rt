@@ -12,6 +12,7 @@ ghost use Rattle.dep_fields.specs.Relationships.{VersionBound, bound_of};
 ghost use Rattle.lists.specs.Sets.{has};
 ghost use Rattle.meeting_index.specs.declared.carried.Carried as carried_type;
 ghost use Rattle.meeting_index.specs.Crowds.{carried_number, carried_order, carried_parts, crowd_has, has_fitting, is_past, passes_with, version_parts};
+ghost use Rattle.meeting_index.specs.Finding.{Finds};
 
 use crate::carried::Carried;
 use choice_set::NoMemory;
@@ -63,6 +64,48 @@ pub fn add_members<'a>(
         None => Ok(met.extend_from_slice(crowd.all.as_slice())?),
         Some((op, version)) => add_within(&crowd.by_version, op, version, met),
     }
+}
+
+/// One of the versions of the carriers that are within a bound, if there is any.
+pub fn one_member<'a>(crowd: &Crowd<'a>, bound: Option<(Op, Version<'a>)>) -> Option<u32>
+    ensures { Finds (crowd_has crowd.now (option_map bound_of bound.entry)) result }
+{
+    match bound {
+        None => first_of(crowd.all.as_slice()),
+        Some((op, version)) => one_within(&crowd.by_version, op, version),
+    }
+}
+
+fn first_of(numbers: &[u32]) -> Option<u32>
+    ensures { Finds (has numbers.now) result }
+{
+    match numbers {
+        [first, ..] => Some(*first),
+        [] => None,
+    }
+}
+
+// The version of one of those that are within a bound, if there is any.
+fn one_within<'a>(by_version: &BTreeSet<Carried<'a>>, op: Op, version: Version<'a>) -> Option<u32>
+    ensures { Finds (has_fitting by_version.now.keys (bound_of (op, version.entry))) result }
+{
+    let range = range_of(op, version);
+    one_in_range(by_version, range.0, range.1)
+}
+
+// The version of the first in a range, if there is any.
+fn one_in_range<'a>(
+    by_version: &BTreeSet<Carried<'a>>,
+    start: Bound<Carried<'a>>,
+    end: Bound<Carried<'a>>,
+) -> Option<u32>
+    requires { IsForward (IsLeBy carried_order) (IsLtBy carried_order) start end }
+    ensures { Finds (has (map carried_number (keys_between carried_order start.entry end.entry by_version.now))) result }
+{
+    for carried in by_version.range((start, end)) {
+        return Some(carried.number);
+    }
+    None
 }
 
 fn is_last(numbers: &[u32], number: u32) -> bool

@@ -7,9 +7,10 @@ ghost use Rattle.ascii.specs.Texts.{is_same};
 ghost use Rattle.dep_fields.specs.Relationships.{VersionBound, bound_of};
 ghost use Rattle.lists.specs.Sets.{has};
 ghost use Rattle.meeting_index.specs.Crowds.{crowd_has, crowds_have, kept_has, passes_with, version_parts};
+ghost use Rattle.meeting_index.specs.Finding.{Finds};
 ghost use Rattle.meeting_index.specs.Named.{has_same};
 
-use crate::crowd::{Crowd, add_members};
+use crate::crowd::{Crowd, add_members, one_member};
 use crate::named::Name;
 use choice_set::NoMemory;
 use deb_version::Version;
@@ -65,6 +66,20 @@ pub fn add_crowd<'a>(
     match find(&crowds.by_name, name) {
         Some(crowd) => add_members(crowd, bound, met),
         None => Ok(()),
+    }
+}
+
+/// One of the versions of the carriers of a name that are within a bound, if there is any.
+pub fn one_of_crowd<'a>(
+    crowds: &Crowds<'a>,
+    name: &'a [u8],
+    bound: Option<(Op, Version<'a>)>,
+) -> Option<u32>
+    ensures { Finds (crowds_have crowds.now name.now (option_map bound_of bound.entry)) result }
+{
+    match find(&crowds.by_name, name) {
+        Some(crowd) => one_member(crowd, bound),
+        None => None,
     }
 }
 

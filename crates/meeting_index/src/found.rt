@@ -9,6 +9,8 @@ ghost use Rattle.universe_model.specs.Meeting.{is_within};
 ghost use Rattle.universe_parts.specs.Listed.{version_listed};
 ghost use Rattle.meeting_index.specs.Carriers.{met_under, own};
 ghost use Rattle.meeting_index.specs.Crowds.{passes_with};
+ghost use Rattle.lists.specs.Sets.{has};
+ghost use Rattle.meeting_index.specs.Finding.{Finds};
 ghost use Rattle.meeting_index.specs.Given.{given_parts};
 ghost use Rattle.meeting_index.specs.Provided.{carrier_of, carriers_listed};
 
@@ -40,6 +42,22 @@ pub fn add_met(
         }
     }
     Ok(())
+}
+
+/// The version of the first of the carriers with these numbers that is within a bound, if there is any.
+pub fn first_met(
+    carriers: &Carriers<'_, '_, '_>,
+    bound: Option<(Op, Version<'_>)>,
+    numbers: &[u32],
+) -> Option<u32>
+    ensures { Finds (has (flat_map (λ number. met_under (option_map bound_of bound.entry) (slice_get (carriers_listed carriers.now) number)) numbers.now)) result }
+{
+    for number in numbers {
+        if let Some(version) = found(carriers, bound, *number) {
+            return Some(version);
+        }
+    }
+    None
 }
 
 // The version of the carrier with a number, if there is one and it is within a bound.

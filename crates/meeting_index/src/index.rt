@@ -1,7 +1,7 @@
 // The index of all versions.
 
 ghost use Rattle.std.specs.Prelude.{◌≡◌, ◌≤◌, ◌||◌, ℕ, length, map, nat_lt, IsTrue, IfOk, OnOk};
-ghost use Rattle.std.specs.List.{list_all};
+ghost use Rattle.std.specs.List.{list_all, list_any};
 ghost use Rattle.lists.specs.Sets.{has, is_rising};
 ghost use Rattle.dep_fields.specs.Relationships.{meaning};
 ghost use Rattle.dep_fields.specs.Views.{group_items};
@@ -10,10 +10,11 @@ ghost use Rattle.universe_model.specs.Lists.{numbers_of};
 ghost use Rattle.universe_model.specs.Meeting.{meets, meets_any};
 ghost use Rattle.universe_parts.specs.Listed.{version_listed};
 ghost use Rattle.meeting_index.specs.Carriers.{carried};
+ghost use Rattle.meeting_index.specs.Finding.{Finds};
 
 use crate::crowding::{crowd_carriers, is_crowd};
-use crate::crowds::{Crowds, add_crowd};
-use crate::found::{Carriers, add_met};
+use crate::crowds::{Crowds, add_crowd, one_of_crowd};
+use crate::found::{Carriers, add_met, first_met};
 use crate::given::Provided;
 use crate::items::is_again;
 use crate::naming::name_carriers;
@@ -120,6 +121,37 @@ impl<'s, 'a> MeetingIndex<'s, 'a> {
         }
         make_rising(targets);
         Ok(())
+    }
+
+    /// Whether some version meets one of the items of a group: whether the group has a target.
+    pub fn has_target(&self, group: &Group<'a>) -> bool
+        ensures { result ≡ list_any (meets_any self.now.native (group_items group.now)) self.now.versions }
+    {
+        for item in group.items() {
+            if self.one_met_by(&item).is_some() {
+                return true;
+            }
+        }
+        false
+    }
+
+    // One of the versions that meet an item, if there is any.
+    fn one_met_by(&self, item: &Item<'a>) -> Option<u32>
+        ensures { Finds (has (carried self.now.native self.now.versions (meaning item.now))) result }
+    {
+        let plain = is_plain(self.native, item.arch);
+        if !plain {
+            return None;
+        }
+        let numbers = self.named.at(item.name);
+        if is_crowd(numbers) {
+            return one_of_crowd(&self.crowds, item.name, item.rel);
+        }
+        let carriers = Carriers {
+            versions: self.versions,
+            provided: self.provided.as_slice(),
+        };
+        first_met(&carriers, item.rel, numbers)
     }
 
     // Adds the versions whose carriers meet an item.

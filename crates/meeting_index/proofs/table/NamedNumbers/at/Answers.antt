@@ -1,8 +1,8 @@
 -- What is at a name is in its share.
-use Rattle.std.proofs.Common.{◌≡◌, ◌∙◌, ◌+◌, ◌-◌, ◌≤◌, arith, sym, ap, length, subst, List, ℕ, map, take, drop}
+use Rattle.std.proofs.Common.{◌∙◌, ◌+◌, ◌-◌, ◌≤◌, arith, sym, ap, length, subst, List, ℕ, map, take, drop}
 use Rattle.std.proofs.lemmas.List.{drop-map, take-map}
 use Rattle.std.specs.List.Sorted.{IsSorted}
-use Rattle.meeting_index.specs.Named.{has_bytes, named_number, named_order, numbers_in, share_of}
+use Rattle.meeting_index.specs.Named.{named_number, named_order, numbers_in, share_of}
 use Rattle.meeting_index.specs.Starts.{IsStart}
 use Rattle.meeting_index.specs.declared.named.Named.{Named}
 use Rattle.meeting_index.proofs.NamedRuns.{sorted-part}
