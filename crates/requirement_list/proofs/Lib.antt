@@ -1,6 +1,7 @@
 pub mod Collecting
 pub mod Numbers
-pub mod Installed
+pub mod Starts
+pub mod KeptInstalled
 pub mod Unmet
 pub mod Meets
 pub mod Concerned

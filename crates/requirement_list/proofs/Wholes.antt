@@ -1,15 +1,18 @@
 -- The dependencies of all versions, one version after another, and as a whole list.
-use Rattle.std.proofs.Common.{◌≡◌, ◌<◌, ℕ, zero, suc, List, [], ◌∷◌, Bool, true, length, map, get_or, ap, ◌∙◌, arith}
+use Rattle.std.proofs.Common.{◌≡◌, ◌<◌, ℕ, zero, suc, List, [], ◌∷◌, Bool, true, length, map, get_or, ap, sym, subst, ◌∙◌, arith}
 use Rattle.std.specs.List.{list_all}
 use Rattle.std.proofs.lemmas.List.{append-nil}
 use Rattle.std.proofs.lemmas.Bool.{and_parts}
 use Rattle.resolver_model.specs.Problems.{Problem}
 use Rattle.meeting_index.specs.Indexes.{Indexed}
 use Rattle.universe_model.specs.Dependencies.{Requirement, Setting}
+use Rattle.universe_model.specs.Versions.{Version}
 use Rattle.universe_model.specs.Universes.{dependency_in}
 use Rattle.universe_model.specs.declared.BuildEnd.{BuildEnd}
 use Rattle.requirement_list.specs.declared.collected.Collected.{Collected}
 use Rattle.requirement_list.specs.declared.RequirementList.{RequirementList}
+use Rattle.requirement_list.specs.Installed.{AreInstalled, HasInstalled}
+use Rattle.requirement_list.specs.declared.Indexes.{Indexes}
 use Rattle.requirement_list.specs.Settings.{setting_of}
 use Rattle.requirement_list.specs.Collecting.{HasLeft, HasCome, HasEnded}
 use Rattle.requirement_list.specs.RequirementLists.{IsEndOf, IsRequirementList}
@@ -43,3 +46,14 @@ list_over p q rs list owners starts h = record {
   conflicts = h.conflicts;
   within = h.within;
 }
+
+-- the index of the installed ones beside that of all
+pub has_installed : (starts native : List ℕ) (versions kept : List Version) (indexes : Indexes) → indexes.all ≡ record { native = native; versions = versions } → indexes.installed ≡ record { native = native; versions = kept }
+    → AreInstalled starts versions kept → HasInstalled starts indexes
+has_installed starts native versions kept indexes all some h =
+    let P : List Version → Type 0 = λ vs. AreInstalled starts vs indexes.installed.versions in
+    let Q : List Version → Type 0 = λ ks. AreInstalled starts versions ks in
+    record {
+      native = ap (λ (i : Indexed). i.native) some ∙ sym (ap (λ (i : Indexed). i.native) all);
+      versions = subst P (sym (ap (λ (i : Indexed). i.versions) all)) (subst Q (sym (ap (λ (i : Indexed). i.versions) some)) h);
+    }

@@ -3,3 +3,4 @@ pub mod Settings
 pub mod Fields
 pub mod Conflicts
 pub mod Collecting
+pub mod Installed

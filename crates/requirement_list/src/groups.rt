@@ -12,8 +12,12 @@ ghost use Rattle.universe_model.specs.Limits.{most_groups};
 ghost use Rattle.requirement_list.specs.Settings.{owners_of, setting_of, AreTargets};
 ghost use Rattle.universe_model.specs.declared.BuildEnd.TheVariants.{NoMemory};
 ghost use Rattle.requirement_list.specs.Collecting.{Adds};
+ghost use Rattle.requirement_list.specs.Installed.{HasInstalled};
+ghost use Rattle.universe_model.specs.Meeting.{meets_any};
 
+use crate::Indexes;
 use crate::collected::{Collected, Field};
+use crate::installed::is_installed;
 use dep_fields::{Group, SoundGroups};
 use meeting_index::MeetingIndex;
 use problem::Problem;
@@ -70,81 +74,67 @@ pub fn add_groups<'a>(
     Ok(())
 }
 
-// Whether a version is the installed one of its package.
-fn is_installed(problem: &Problem, version: u32) -> bool
-    requires { version < version_count problem.now }
-    ensures { result ≡ has problem.now.starts version }
+// Whether the dependency of a group is broken in the installed state: its source is installed, and no installed version meets
+// one of its items.
+fn is_broken<'a>(
+    installed: &MeetingIndex<'_, 'a>,
+    problem: &Problem,
+    source: u32,
+    group: &Group<'a>,
+) -> bool
+    requires { source < version_count problem.now }
+    ensures { result ≡ (has problem.now.starts source && not (list_any (meets_any installed.now.native (group_items group.now)) installed.now.versions)) }
 {
-    // it tells that a start version is one of its package
-    let _versions = problem.versions();
-    problem.start_of(problem.package_of(version)) == version
+    is_installed(problem, source) && !installed.has_target(group)
 }
 
-// Whether one of these versions is the installed one of its package.
-fn is_any_installed(problem: &Problem, versions: &[u32]) -> bool
-    requires { IsTrue (list_all (λ v. nat_lt v (version_count problem.now)) versions.now) }
-    ensures { result ≡ list_any (has problem.now.starts) versions.now }
-{
-    for version in versions {
-        if is_installed(problem, *version) {
-            return true;
-        }
-    }
-    false
-}
-
-// Whether a dependency is broken in the installed state.
-fn is_broken(problem: &Problem, source: u32, targets: &[u32]) -> bool
-    requires source { source < version_count problem.now }
-    requires range { IsTrue (list_all (λ v. nat_lt v (version_count problem.now)) targets.now) }
-    ensures { result ≡ (has problem.now.starts source && not (list_any (has problem.now.starts) targets.now)) }
-{
-    is_installed(problem, source) && !is_any_installed(problem, targets)
-}
-
-// Adds the dependency of a group of Recommends, unless it is broken in the installed state.
+// Adds the dependency of a group of Recommends, unless it is broken in the installed state. Its targets are listed only where
+// it is added.
 fn add_recommended<'a>(
-    index: &MeetingIndex<'_, 'a>,
+    indexes: &Indexes<'_, '_, 'a>,
     collected: &mut Collected,
     source: u32,
     place: u32,
     group: &Group<'a>,
     targets: &mut Vec<u32>,
 ) -> Result<(), BuildEnd>
-    requires owners { collected.old.builder.owners ≡ owners_of index.now.versions }
-    requires source { source < length index.now.versions }
-    ensures { let s = setting_of index.now collected.old in
+    requires owners { collected.old.builder.owners ≡ owners_of indexes.now.all.versions }
+    requires installed { HasInstalled collected.old.builder.starts indexes.now }
+    requires source { source < length indexes.now.all.versions }
+    ensures { let s = setting_of indexes.now.all collected.old in
         Adds (filter (λ r. not (is_broken_now s r)) (recommended s source place (group_items group.now) ∷ [])) collected.old result collected.new }
 {
-    if collected.past && !is_installed(collected.builder.problem(), source) {
-        return collected.count_one();
-    }
-    list_targets(index, group, targets)?;
-    if is_broken(collected.builder.problem(), source, targets.as_slice()) {
+    let problem = collected.builder.problem();
+    if is_broken(&indexes.installed, problem, source, group) {
         return Ok(());
     }
+    if collected.past {
+        return collected.count_one();
+    }
+    list_targets(&indexes.all, group, targets)?;
     collected.add(source, targets.as_slice(), Field::Recommends(place))
 }
 
 /// Adds the dependencies of Recommends. Groups are counted from 1, also those that give no dependency.
 #[tactic(auto, unfolding(dep_fields::specs::Fields::field_of))]
 pub fn add_recommends<'a>(
-    index: &MeetingIndex<'_, 'a>,
+    indexes: &Indexes<'_, '_, 'a>,
     collected: &mut Collected,
     source: u32,
     value: &'a [u8],
     targets: &mut Vec<u32>,
 ) -> Result<(), BuildEnd>
-    requires owners { collected.old.builder.owners ≡ owners_of index.now.versions }
-    requires source { source < length index.now.versions }
+    requires owners { collected.old.builder.owners ≡ owners_of indexes.now.all.versions }
+    requires installed { HasInstalled collected.old.builder.starts indexes.now }
+    requires source { source < length indexes.now.all.versions }
     requires read { is_relation true value.now ≡ true }
     requires few { length (groups_of value.now) ≤ most_groups }
-    ensures { Adds (of_recommends (setting_of index.now collected.old) source (groups_of value.now)) collected.old result collected.new }
+    ensures { Adds (of_recommends (setting_of indexes.now.all collected.old) source (groups_of value.now)) collected.old result collected.new }
 {
     let mut place = 0;
     for group in SoundGroups::new(value, true) {
         place += 1;
-        add_recommended(index, collected, source, place, &group, targets)?;
+        add_recommended(indexes, collected, source, place, &group, targets)?;
     }
     Ok(())
 }

@@ -15,9 +15,11 @@ ghost use Rattle.requirement_list.specs.RequirementLists.{IsRequirementList, req
 mod collected;
 mod conflicts;
 mod groups;
+mod installed;
 mod versions;
 
 use collected::Collected;
+use installed::list_installed;
 use meeting_index::MeetingIndex;
 use problem::{Builder, Problem};
 use std::alloc::Global;
@@ -32,6 +34,13 @@ pub struct RequirementList {
     pub problem: Problem,
     pub groups: Vec<u32>,
     pub conflicts: Vec<bool>,
+}
+
+// An index of all versions, and one of those that are installed.
+#[derive(Drop)]
+struct Indexes<'i, 's, 'a> {
+    all: MeetingIndex<'s, 'a>,
+    installed: MeetingIndex<'i, 'a>,
 }
 
 // Room that is used again for each dependency: for the versions that meet an item, and for targets.
@@ -61,12 +70,15 @@ pub fn list_requirements<'s, 'a>(
 {
     // it tells that there are not too many versions
     let _versions = builder.problem().versions();
-    let index = MeetingIndex::new(alloc, native, versions)?;
+    let kept = list_installed(alloc, builder.problem(), versions)?;
+    let all = MeetingIndex::new(alloc, native, versions)?;
+    let installed = MeetingIndex::new(alloc, native, kept.as_slice())?;
+    let indexes = Indexes { all, installed };
     let mut collected = Collected::new(alloc, builder);
     let mut room = Room {
         met: Vec::new(alloc),
         targets: Vec::new(alloc),
     };
-    add_versions(&index, &mut collected, versions, &mut room)?;
+    add_versions(&indexes, &mut collected, versions, &mut room)?;
     collected.finish()
 }

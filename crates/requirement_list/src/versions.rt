@@ -9,30 +9,32 @@ ghost use Rattle.universe_model.specs.Limits.{most_groups, are_groups_few};
 ghost use Rattle.universe_parts.specs.Listed.{stanza_read, version_listed};
 ghost use Rattle.requirement_list.specs.Settings.{owners_of, setting_of};
 ghost use Rattle.requirement_list.specs.Collecting.{Adds};
+ghost use Rattle.requirement_list.specs.Installed.{HasInstalled};
 
-use crate::Room;
 use crate::collected::Collected;
 use crate::conflicts::add_conflicts;
 use crate::groups::{add_groups, add_recommends};
-use meeting_index::MeetingIndex;
+use crate::{Indexes, Room};
 use universe_model::BuildEnd;
 use universe_parts::{ListedVersion, ReadStanza};
 
 // Adds the dependencies of a version of the package `own` that is read.
 fn add_release<'a>(
-    index: &MeetingIndex<'_, 'a>,
+    indexes: &Indexes<'_, '_, 'a>,
     collected: &mut Collected,
     source: u32,
     own: u32,
     read: &ReadStanza<'a>,
     room: &mut Room,
 ) -> Result<(), BuildEnd>
-    requires owners { collected.old.builder.owners ≡ owners_of index.now.versions }
-    requires source { source < length index.now.versions }
+    requires owners { collected.old.builder.owners ≡ owners_of indexes.now.all.versions }
+    requires installed { HasInstalled collected.old.builder.starts indexes.now }
+    requires source { source < length indexes.now.all.versions }
     requires few { length (groups_of read.now.stanza.recommends.now) ≤ most_groups }
-    ensures { Adds (of_release (setting_of index.now collected.old) source own (Some (release_of (stanza_read read.now)))) collected.old result collected.new }
+    ensures { Adds (of_release (setting_of indexes.now.all collected.old) source own (Some (release_of (stanza_read read.now)))) collected.old result collected.new }
 {
     let stanza = &read.stanza;
+    let index = &indexes.all;
     add_groups(
         index,
         collected,
@@ -42,7 +44,7 @@ fn add_release<'a>(
     )?;
     add_groups(index, collected, source, stanza.depends, &mut room.targets)?;
     add_recommends(
-        index,
+        indexes,
         collected,
         source,
         stanza.recommends,
@@ -54,38 +56,40 @@ fn add_release<'a>(
 
 /// Adds the dependencies of a version. What is absent has none.
 pub fn add_version<'a>(
-    index: &MeetingIndex<'_, 'a>,
+    indexes: &Indexes<'_, '_, 'a>,
     collected: &mut Collected,
     source: u32,
     version: &ListedVersion<'_, 'a>,
     room: &mut Room,
 ) -> Result<(), BuildEnd>
-    requires owners { collected.old.builder.owners ≡ owners_of index.now.versions }
-    requires source { source < length index.now.versions }
+    requires owners { collected.old.builder.owners ≡ owners_of indexes.now.all.versions }
+    requires installed { HasInstalled collected.old.builder.starts indexes.now }
+    requires source { source < length indexes.now.all.versions }
     requires few { are_groups_few (version_listed version.now) ≡ true }
-    ensures { Adds (of_version (setting_of index.now collected.old) source (version_listed version.now)) collected.old result collected.new }
+    ensures { Adds (of_version (setting_of indexes.now.all collected.old) source (version_listed version.now)) collected.old result collected.new }
 {
     match version.read {
         None => Ok(()),
-        Some(read) => add_release(index, collected, source, version.package, read, room),
+        Some(read) => add_release(indexes, collected, source, version.package, read, room),
     }
 }
 
 /// Adds the dependencies of all versions, in order.
 pub fn add_versions<'a>(
-    index: &MeetingIndex<'_, 'a>,
+    indexes: &Indexes<'_, '_, 'a>,
     collected: &mut Collected,
     versions: &[ListedVersion<'_, 'a>],
     room: &mut Room,
 ) -> Result<(), BuildEnd>
-    requires owners { collected.old.builder.owners ≡ owners_of index.now.versions }
-    requires all { index.now.versions ≡ map version_listed versions.now }
+    requires owners { collected.old.builder.owners ≡ owners_of indexes.now.all.versions }
+    requires all { indexes.now.all.versions ≡ map version_listed versions.now }
+    requires installed { HasInstalled collected.old.builder.starts indexes.now }
     requires few { length versions.now ≤ most_versions }
     requires groups { IsTrue (list_all are_groups_few (map version_listed versions.now)) }
-    ensures { Adds (requirements (setting_of index.now collected.old)) collected.old result collected.new }
+    ensures { Adds (requirements (setting_of indexes.now.all collected.old)) collected.old result collected.new }
 {
     for (number, version) in versions.iter().enumerate() {
-        add_version(index, collected, number as u32, version, room)?;
+        add_version(indexes, collected, number as u32, version, room)?;
     }
     Ok(())
 }

@@ -11,7 +11,7 @@ use Rattle.requirement_list.proofs.groups.add_recommends.Goals as goal
 
 pub returns-in_err-add_recommended : goal.returns-in_err-add_recommended
 returns-in_err-add_recommended c =
-    let s = setting_of c.args.index.now c.args.collected.now in
+    let s = setting_of c.args.indexes.now.all c.args.collected.now in
     let f = recommended s c.args.source in
     let counts = λ (r : Requirement). not (is_broken_now s r) in
     let first = f (c.loop-group.place + 1) (group_items c.in-Some.group) in
@@ -19,6 +19,6 @@ returns-in_err-add_recommended c =
     let come = rw c.in-Some.ensures.steps at c.loop-group.invariant.come in
     let split = rw (filter-front counts first left) at come in
     let counted = λ (t : Setting). filter (λ r. not (is_broken_now t r)) (recommended t c.args.source (c.loop-group.place + 1) (group_items c.in-Some.group) ∷ []) in
-    let ended = ended_same c.args.index.now c.args.collected.now c.loop-group.collected counted _ c.loop-group.invariant.come.starts c.in_err-add_recommended.ensures in
+    let ended = ended_same c.args.indexes.now.all c.args.collected.now c.loop-group.collected counted _ c.loop-group.invariant.come.starts c.in_err-add_recommended.ensures in
     let p = err_from_is_err_and c.from_residual.result c.from_residual.ensures.1 in
     rw (p.1, p.2) (ended_more (of_recommends s c.args.source (groups_of c.args.value.now)) (filter counts (first ∷ [])) (filter counts left) c.args.collected.now c.loop-group.collected _ split ended)

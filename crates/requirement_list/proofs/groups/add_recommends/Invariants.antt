@@ -10,7 +10,7 @@ use Rattle.requirement_list.proofs.groups.add_recommends.Given as goal
 
 abbrev pub invariant-loop-group : goal.invariant-loop-group
 invariant-loop-group l =
-    let s = setting_of l.index l.fn.collected in
+    let s = setting_of l.indexes.all l.fn.collected in
     let left = sound_left l.group-iterator in
     record {
       places : l.place + length left ≡ length (groups_of l.value);

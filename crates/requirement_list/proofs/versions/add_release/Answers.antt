@@ -6,7 +6,7 @@ use Rattle.requirement_list.proofs.versions.add_release.Goals as goal
 
 pub returns-in_err-add_groups : goal.returns-in_err-add_groups
 returns-in_err-add_groups c =
-    let index = c.args.index.now in
+    let index = c.args.indexes.now.all in
     let a = c.args.collected.now in
     let source = c.args.source in
     let own = c.args.own in
@@ -18,7 +18,7 @@ returns-in_err-add_groups c =
 
 pub returns-in_err-add_groups-2 : goal.returns-in_err-add_groups-2
 returns-in_err-add_groups-2 c =
-    let index = c.args.index.now in
+    let index = c.args.indexes.now.all in
     let a = c.args.collected.now in
     let source = c.args.source in
     let own = c.args.own in
@@ -31,7 +31,7 @@ returns-in_err-add_groups-2 c =
 
 pub returns-in_err-add_recommends : goal.returns-in_err-add_recommends
 returns-in_err-add_recommends c =
-    let index = c.args.index.now in
+    let index = c.args.indexes.now.all in
     let a = c.args.collected.now in
     let source = c.args.source in
     let own = c.args.own in
@@ -45,7 +45,7 @@ returns-in_err-add_recommends c =
 
 pub returns-in_err-add_conflicts : goal.returns-in_err-add_conflicts
 returns-in_err-add_conflicts c =
-    let index = c.args.index.now in
+    let index = c.args.indexes.now.all in
     let a = c.args.collected.now in
     let source = c.args.source in
     let own = c.args.own in
@@ -60,7 +60,7 @@ returns-in_err-add_conflicts c =
 
 pub returns : goal.returns
 returns c =
-    let index = c.args.index.now in
+    let index = c.args.indexes.now.all in
     let a = c.args.collected.now in
     let source = c.args.source in
     let own = c.args.own in

@@ -21,7 +21,7 @@ add_version-requires-clause-few c =
 
 pub returns-in_err-add_version : goal.returns-in_err-add_version
 returns-in_err-add_version c =
-    let index = c.args.index.now in
+    let index = c.args.indexes.now.all in
     let a = c.args.collected.now in
     let s = setting_of index a in
     let k = c.loop-number.number in

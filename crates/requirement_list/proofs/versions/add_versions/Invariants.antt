@@ -9,5 +9,5 @@ use Rattle.requirement_list.proofs.versions.add_versions.Given as goal
 
 abbrev pub invariant-loop-number : goal.invariant-loop-number
 invariant-loop-number l =
-    let s = setting_of l.index l.fn.collected in
+    let s = setting_of l.indexes.all l.fn.collected in
     HasCome (requirements s) (concat (map_from (of_version s) l.number (map version_listed (drop l.number l.versions)))) l.initial.collected l.collected

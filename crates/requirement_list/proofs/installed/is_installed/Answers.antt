@@ -1,7 +1,7 @@
 use Rattle.std.proofs.Common.{ap, nat_eq, ◌∙◌}
 use Rattle.resolver_model.specs.Problems.{start_of}
-use Rattle.requirement_list.proofs.Installed.{is_start}
-use Rattle.requirement_list.proofs.groups.is_installed.Goals as goal
+use Rattle.requirement_list.proofs.Starts.{is_start}
+use Rattle.requirement_list.proofs.installed.is_installed.Goals as goal
 
 pub returns : goal.returns
 returns c =

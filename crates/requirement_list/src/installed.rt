@@ -1,0 +1,43 @@
+//! Which versions are installed, and which groups are met by one of them.
+
+ghost use Rattle.std.specs.Prelude.{◌≡◌, ◌<◌, ◌≤◌, map, length, IfOk};
+ghost use Rattle.lists.specs.Sets.{has};
+ghost use Rattle.resolver_model.specs.Problems.{version_count};
+ghost use Rattle.universe_parts.specs.Listed.{version_listed};
+ghost use Rattle.requirement_list.specs.Installed.{AreInstalled};
+
+use choice_set::NoMemory;
+use problem::Problem;
+use std::alloc::Global;
+use universe_parts::ListedVersion;
+
+/// Whether a version is the installed one of its package.
+pub fn is_installed(problem: &Problem, version: u32) -> bool
+    requires { version < version_count problem.now }
+    ensures { result ≡ has problem.now.starts version }
+{
+    // it tells that a start version is one of its package
+    let _versions = problem.versions();
+    problem.start_of(problem.package_of(version)) == version
+}
+
+/// The versions that are installed, of all versions of a problem.
+pub fn list_installed<'s, 'a>(
+    alloc: Global,
+    problem: &Problem,
+    versions: &[ListedVersion<'s, 'a>],
+) -> Result<Vec<ListedVersion<'s, 'a>>, NoMemory>
+    requires { version_count problem.now ≡ length versions.now }
+    ensures installed { IfOk result (λ kept. AreInstalled problem.now.starts (map version_listed versions.now) (map version_listed kept.items)) }
+    ensures few { IfOk result (λ kept. length kept.items ≤ length versions.now) }
+{
+    // it tells that there are not too many versions
+    let _versions = problem.versions();
+    let mut kept = Vec::new(alloc);
+    for (number, version) in versions.iter().enumerate() {
+        if is_installed(problem, number as u32) {
+            kept.push(*version)?;
+        }
+    }
+    Ok(kept)
+}
