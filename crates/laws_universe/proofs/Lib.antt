@@ -12,4 +12,6 @@ pub mod Found
 pub mod Choices
 pub mod Versions
 pub mod Requirements
+pub mod Standing
+pub mod KnownOrder
 pub mod Universes

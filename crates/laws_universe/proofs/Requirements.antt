@@ -51,7 +51,7 @@ module _ (P : Requirement → Type 0) (s : Setting) (source count : ℕ) (holds 
 
 -- ---- sources and places
 
-sourced : (s : Setting) (source : ℕ) (v : Version) → All (λ (r : Requirement). r.dependency.source ≡ source) (of_version s source v)
+pub sourced : (s : Setting) (source : ℕ) (v : Version) → All (λ (r : Requirement). r.dependency.source ≡ source) (of_version s source v)
 sourced s source v = by v.release
   where
     P : Requirement → Type 0

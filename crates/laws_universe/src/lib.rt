@@ -4,7 +4,8 @@
 
 ghost use Rattle.problem.specs.Places.{IsOneOfEach};
 ghost use Rattle.resolver_model.specs.Problems.{Problem, is_choice};
-ghost use Rattle.std.specs.List.{list_all};
+ghost use Rattle.laws_universe.specs.Standing.{StandApart, StaysBefore};
+ghost use Rattle.std.specs.List.{AllPairs, list_all};
 ghost use Rattle.std.specs.Prelude.{IsTrue, List, Ok, ℕ, ◌≡◌};
 ghost use Rattle.universe_model.specs.Limits.{AreWithin, are_groups_few};
 ghost use Rattle.universe_model.specs.Reading.{Stanzas, Texts, stanzas_of};
@@ -20,6 +21,17 @@ pub fn candidates_are_versions()
 /// A law: the installed versions of a universe are one version of each package, in order.
 pub fn installed_are_versions()
     ensures { (stanzas : Stanzas) (native : List ℕ) → IsOneOfEach (problem_of (universe_of native stanzas)) (universe_of native stanzas).installed }
+{}
+
+/// A law: no two versions of a universe are of one package and equal in the order of versions (Debian Policy 5.6.12).
+pub fn versions_stand_apart()
+    ensures { (stanzas : Stanzas) (native : List ℕ) → AllPairs StandApart (universe_of native stanzas).versions }
+{}
+
+/// A law: of the dependencies of one version those of Pre-Depends and Depends come first, then those of Recommends by the rising
+/// places of their groups, and those of Conflicts and Breaks last (Debian Policy 7.2 to 7.4).
+pub fn dependencies_stand_in_order()
+    ensures { (stanzas : Stanzas) (native : List ℕ) → AllPairs StaysBefore (universe_of native stanzas).requirements }
 {}
 
 /// A law: where two texts are no longer than a file may be, no version has more than 999,999,999 groups in its Recommends.

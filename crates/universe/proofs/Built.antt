@@ -1,5 +1,5 @@
 -- The limits of a universe, as its parts are listed one after another.
-use Rattle.std.proofs.Common.{◌≡◌, ℕ, suc, Bool, true, false, List, [], ◌∷◌, map, length, Option, Some, None, option_map, if◌then◌else◌, nat_lt, ◌+◌, refl, sym, ap, ◌∙◌}
+use Rattle.std.proofs.Common.{◌≡◌, ℕ, Bool, true, false, List, [], ◌∷◌, map, length, Option, Some, None, option_map, if◌then◌else◌, nat_lt, ◌+◌, refl, sym, ap, ◌∙◌}
 use Rattle.std.proofs.lemmas.List.{length-map}
 use Rattle.std.specs.List.{sum_by, fold}
 use Rattle.std.specs.Option.{option_or}
@@ -8,7 +8,6 @@ use Rattle.problem.specs.declared.limits.ProblemEnd.{ProblemEnd}
 use Rattle.problem.specs.Limits.{most_packages, most_versions, most_dependencies, most_targets, target_count, refusal, end_past}
 use Rattle.resolver_model.specs.Problems.{Problem, Dependency, package_count, version_count, dependency_count}
 use Rattle.universe_model.specs.Dependencies.{Requirement, requirements}
-use Rattle.universe_model.specs.Lists.{map_from}
 use Rattle.universe_model.specs.Reading.{Stanzas}
 use Rattle.universe_model.specs.Versions.{Version, names, versions, installed_of}
 use Rattle.universe_model.specs.Universes.{dependency_in, known, owner_of, installed_in, universe_of, problem_of}

@@ -2,6 +2,7 @@ mod Zips
 mod Kept
 mod Walks
 mod Owned
+mod Halves
 mod Built
 mod Making
 mod Whole

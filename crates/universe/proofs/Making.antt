@@ -1,8 +1,9 @@
 -- A universe that is made of the lists of its parts is that of the stanzas.
-use Rattle.std.proofs.Common.{◌≡◌, ◌⊎◌, inl, inr, ℕ, Bool, List, [], map, length, Some, None, option_map, sym, ap, ◌∙◌, subst}
+use Rattle.std.proofs.Common.{◌≡◌, ◌⊎◌, inl, inr, ℕ, Bool, List, [], map, length, Some, None, option_map, sym, ap, ◌∙◌, subst, AllPairs}
 use Rattle.std.proofs.lemmas.List.{length-map}
 use Rattle.std.specs.Option.{option_or}
 use Rattle.lists.specs.Below.{below}
+use Rattle.laws_universe.specs.Standing.{StaysBefore}
 use Rattle.problem.specs.Places.{IsOneOfEach}
 use Rattle.resolver_model.specs.Problems.{Problem, package_count, dependency_count}
 use Rattle.requirement_list.specs.RequirementLists.{requirement_refusal}
@@ -56,26 +57,34 @@ module _ (native : List ℕ) (stanzas : Stanzas) (lv : List Version) (b : Proble
       ∙ ap (λ os. with_rows (record { owners = os; starts = installed_in stanzas (names stanzas) (versions stanzas); dependencies = [] })
       (rows native (versions stanzas) (installed_in stanzas (names stanzas) (versions stanzas)))) (owners-known (versions stanzas))
 
+  -- in three tables they are those of the universe too
+  pub requirements-same : (lp : Problem) (gs : List ℕ) (xs : List Bool) → lp ≡ with_rows b (rows native lv b.starts) → gs ≡ map group_in (rows native lv b.starts)
+      → xs ≡ map conflict_in (rows native lv b.starts) → requirements_of lp.dependencies gs xs ≡ (universe_of native stanzas).requirements
+  requirements-same lp gs xs p g x =
+      let rs = rows native lv b.starts in
+      ap (λ (q : Problem). requirements_of q.dependencies gs xs) p
+      ∙ ap (λ groups. requirements_of (map dependency_in rs) groups xs) g
+      ∙ ap (λ conflicts. requirements_of (map dependency_in rs) (map group_in rs) conflicts) x
+      ∙ requirements_of-parts rs
+      ∙ rows-same
+
+  pub requirements-ordered : (lp : Problem) (gs : List ℕ) (xs : List Bool) → lp ≡ with_rows b (rows native lv b.starts) → gs ≡ map group_in (rows native lv b.starts)
+      → xs ≡ map conflict_in (rows native lv b.starts) → AllPairs StaysBefore (universe_of native stanzas).requirements → AllPairs StaysBefore (requirements_of lp.dependencies gs xs)
+  requirements-ordered lp gs xs p g x ordered = subst (AllPairs StaysBefore) (sym (requirements-same lp gs xs p g x)) ordered
+
   pub universe-same : (ns : List (List ℕ)) (cs : List ℕ) (hs : List Bool) (ks : List Known) (lp : Problem) (gs : List ℕ) (xs : List Bool)
       → ns ≡ names stanzas → cs ≡ map (candidate_of (versions stanzas)) (below (length (names stanzas))) → hs ≡ map (is_held stanzas.status) (names stanzas)
       → ks ≡ map known lv → lp ≡ with_rows b (rows native lv b.starts) → gs ≡ map group_in (rows native lv b.starts) → xs ≡ map conflict_in (rows native lv b.starts)
       → made native ns lp.starts cs hs ks (requirements_of lp.dependencies gs xs) ≡ universe_of native stanzas
   universe-same ns cs hs ks lp gs xs n c h k p g x =
-      let rs = rows native lv b.starts in
       let installed = installed_in stanzas (names stanzas) (versions stanzas) in
       let starts = ap (λ (q : Problem). q.starts) p ∙ starts-same in
-      let reqs =
-      ap (λ (q : Problem). requirements_of q.dependencies gs xs) p
-      ∙ ap (λ groups. requirements_of (map dependency_in rs) groups xs) g
-      ∙ ap (λ conflicts. requirements_of (map dependency_in rs) (map group_in rs) conflicts) x
-      ∙ requirements_of-parts rs
-      ∙ rows-same in
       ap (λ z. made native z lp.starts cs hs ks (requirements_of lp.dependencies gs xs)) n
       ∙ ap (λ z. made native (names stanzas) z cs hs ks (requirements_of lp.dependencies gs xs)) starts
       ∙ ap (λ z. made native (names stanzas) installed z hs ks (requirements_of lp.dependencies gs xs)) c
       ∙ ap (λ z. made native (names stanzas) installed (map (candidate_of (versions stanzas)) (below (length (names stanzas)))) z ks (requirements_of lp.dependencies gs xs)) h
       ∙ ap (λ z. made native (names stanzas) installed (map (candidate_of (versions stanzas)) (below (length (names stanzas)))) (map (is_held stanzas.status) (names stanzas)) z (requirements_of lp.dependencies gs xs)) (k ∙ ap (map known) listed)
-      ∙ ap (λ z. made native (names stanzas) installed (map (candidate_of (versions stanzas)) (below (length (names stanzas)))) (map (is_held stanzas.status) (names stanzas)) (map known (versions stanzas)) z) reqs
+      ∙ ap (λ z. made native (names stanzas) installed (map (candidate_of (versions stanzas)) (below (length (names stanzas)))) (map (is_held stanzas.status) (names stanzas)) (map known (versions stanzas)) z) (requirements-same lp gs xs p g x)
 
   pub candidates-own : (lp : Problem) (cs : List ℕ) → lp ≡ with_rows b (rows native lv b.starts) → cs ≡ map (candidate_of (versions stanzas)) (below (length (names stanzas)))
       → IsOneOfEach (problem_of (universe_of native stanzas)) (universe_of native stanzas).candidates → IsOneOfEach lp cs

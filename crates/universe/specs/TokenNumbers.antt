@@ -1,5 +1,5 @@
 -- What a token names apart from any problem, and which version is later.
-use Rattle.std.specs.Prelude.{ℕ, Bool, false, List, Option, Some, None, Result, Ok}
+use Rattle.std.specs.Prelude.{ℕ, Bool, false, List, Option, Some, Result, Ok}
 use Rattle.std.specs.List.{position}
 use Rattle.std.specs.Option.{option_map}
 use Rattle.deb_version.specs.Versions.{parts}

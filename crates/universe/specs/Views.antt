@@ -1,8 +1,9 @@
 -- A universe as the program keeps it.
 use Rattle.std.specs.Prelude.{◌≡◌, ℕ, Bool, true, List, [], ◌∷◌, map, length, Option, None, Some, option_map, IsTrue}
-use Rattle.std.specs.List.{list_all}
+use Rattle.std.specs.List.{AllPairs, list_all}
 use Rattle.std.specs.Global.{Vec}
 use Rattle.deb_version.specs.Versions.{is_version}
+use Rattle.laws_universe.specs.Standing.{StaysBefore}
 use Rattle.problem.specs.Places.{IsOneOfEach}
 use Rattle.resolver_model.specs.Problems.{Dependency, package_count, dependency_count}
 use Rattle.universe_model.specs.Dependencies.{Requirement}
@@ -53,4 +54,5 @@ pub record IsKept (u : Inside) : Type 0 where
   pub owners : u.problem.owners ≡ map model.owner_of (map known_version u.versions.items)
   pub groups : length u.groups.items ≡ dependency_count u.problem
   pub conflicts : length u.conflicts.items ≡ dependency_count u.problem
+  pub order : AllPairs StaysBefore (requirements_of u.problem.dependencies u.groups.items u.conflicts.items)
   pub texts : IsTrue (list_all is_sound (map known_version u.versions.items))

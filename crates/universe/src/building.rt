@@ -11,7 +11,7 @@ ghost use Rattle.universe.specs.Building.{IsOfStanzas, IsEndOf};
 
 use crate::Universe;
 use crate::known::known_versions;
-use laws_universe::{candidates_are_versions, groups_are_few};
+use laws_universe::{candidates_are_versions, dependencies_stand_in_order, groups_are_few};
 use requirement_list::list_requirements;
 use stanza_list::{package_stanzas, status_stanzas};
 use std::alloc::Global;
@@ -31,6 +31,7 @@ impl Universe {
         ensures { MatchResult result (λ u. IsOfStanzas native.now (stanzas_read status.now packages.now) u) (λ end. IsEndOf native.now (stanzas_read status.now packages.now) end) }
     {
         candidates_are_versions();
+        dependencies_stand_in_order();
         let Listing {
             names,
             versions,

@@ -1,8 +1,10 @@
 //! What is found in a universe: versions, and the choices that tokens name.
 
-ghost use Rattle.std.specs.Prelude.{◌≡◌, ◌<◌, ◌++◌, ◌∷◌, [], ℕ, Ok, Err, None, Some, IfSome, OnOk, OnErr, length, option_map, cond, ◌&&◌};
+ghost use Rattle.std.specs.Prelude.{◌≡◌, ◌<◌, ◌++◌, ◌∷◌, [], ℕ, Ok, Err, None, Some, true, false, IfSome, OnOk, OnErr, length, option_map, cond, ◌&&◌};
 ghost use Rattle.std.specs.List.{position};
+ghost use Rattle.std.specs.List.Sorted.{IsPartitionPoint, IsPartitionedBy};
 ghost use Rattle.deb_version.specs.Versions.{parts};
+ghost use Rattle.laws_universe.specs.Standing.{is_before};
 ghost use Rattle.resolver_model.specs.Problems.{is_install, leave_of};
 ghost use Rattle.universe_model.specs.Universes.{IsProblemOf, version_in, version_numbered, requirement_numbered, is_text_of, name_of_package};
 ghost use Rattle.universe_model.specs.Tokens.{choice_of, choice_named, token, token_by_kind, install_token, version_named, is_recommends_of};
@@ -81,15 +83,39 @@ impl Universe {
         is_all(soft, source == version, self.group_of(dep) == place)
     }
 
-    // The soft dependency of a version for a group of its Recommends, among the dependencies of the version.
+    // Whether a dependency stands before the group at a place of the Recommends of its version. A number past the end is that of
+    // no dependency.
+    fn is_before(&self, dep: u32, place: u32) -> bool
+        ensures { result ≡ is_before place (requirement_numbered self.now dep) }
+    {
+        if dep >= self.problem.deps() {
+            return true;
+        }
+        if self.problem.is_soft(dep) {
+            return self.group_of(dep) < place;
+        }
+        !self.is_conflict(dep)
+    }
+
+    // How many of the dependencies of a version stand before the group at a place of its Recommends.
+    fn count_before(&self, own: &[u32], place: u32) -> usize
+        requires { IsPartitionedBy (λ dep. is_before place (requirement_numbered self.now dep)) own.now }
+        ensures { IsPartitionPoint (λ dep. is_before place (requirement_numbered self.now dep) ≡ true) (λ dep. is_before place (requirement_numbered self.now dep) ≡ false) own.now result }
+    {
+        own.partition_point(|dep| self.is_before(*dep, place))
+    }
+
+    // The soft dependency of a version for a group of its Recommends, found by halves among the dependencies of the version,
+    // which stand in order.
     pub(crate) fn recommends_of(&self, version: u32, place: u32) -> Option<u32>
         requires { version < length self.now.versions }
         ensures { result ≡ position (is_recommends_of version place) self.now.requirements }
     {
-        for dep in self.problem.deps_of(version) {
-            if self.is_recommends_of(version, place, *dep) {
-                return Some(*dep);
-            }
+        let own = self.problem.deps_of(version);
+        let first = self.count_before(own, place);
+        let dep = *own.get(first)?;
+        if self.is_recommends_of(version, place, dep) {
+            return Some(dep);
         }
         None
     }

@@ -1,5 +1,6 @@
 use laws_universe::{
-    candidates_are_versions, groups_are_few, installed_are_versions, tokens_name_choices,
+    candidates_are_versions, dependencies_stand_in_order, groups_are_few, installed_are_versions,
+    tokens_name_choices, versions_stand_apart,
 };
 use std::test::Fail;
 
@@ -7,6 +8,8 @@ use std::test::Fail;
 fn laws_are_called(rt: HostRuntime) -> Result<(), Fail> {
     candidates_are_versions();
     installed_are_versions();
+    versions_stand_apart();
+    dependencies_stand_in_order();
     groups_are_few();
     tokens_name_choices();
     assert!(rt; true);

@@ -1,59 +1,77 @@
-use Rattle.std.proofs.Common.{◌≡◌, ℕ, ◌<◌, Bool, true, false, List, ◌&&◌, ◌==◌, length, get_or, sym, ap, ◌∙◌, subst, arith, nat_lt, ltb-true}
-use Rattle.std.specs.Prelude.{IsTrue}
-use Rattle.std.specs.List.{list_all}
-use Rattle.std.proofs.lemmas.Bool.{and_parts}
-use Rattle.std.proofs.lemmas.List.Sums.{AllPass-from_list_all}
-use Rattle.resolver_model.specs.Problems.{Dependency, Problem, dependency, dependency_count}
-use Rattle.universe_model.specs.Dependencies.{Requirement}
+use Rattle.std.proofs.Common.{◌≡◌, ◌==◌, ◌<◌, ℕ, true, false, Some, None, List, length, get_or, sym, ap, ◌∙◌, subst, arith, AllPairs}
+use Rattle.std.specs.List.Sorted.{IsPartitionedBy, IsPartitionPoint}
+use Rattle.std.specs.List.{position, filter}
+use Rattle.lists.specs.Below.{below}
+use Rattle.laws_universe.specs.Standing.{is_before, StaysBefore}
+use Rattle.resolver_model.specs.Problems.{Dependency, dependency, dependency_count}
 use Rattle.universe_model.specs.Tokens.{is_recommends_of}
-use Rattle.universe_model.specs.Universes.{Universe, no_requirement, requirement_numbered}
-use Rattle.laws_universe.proofs.Places.{position-some}
+use Rattle.universe_model.specs.Universes.{Universe, requirement_numbered}
+use Rattle.universe.specs.Views.{IsKept, universe_kept}
+use Rattle.universe.specs.declared.Universe.TheInside.{Inside}
+use Rattle.universe.proofs.Halves.{parted, group-found, group-missing}
 use Rattle.universe.proofs.Kept.{count-same, dependency-same}
-use Rattle.universe.proofs.Owned.{owned-none, owned-before}
-use Rattle.universe.proofs.Walks.{position-none}
 use Rattle.universe.proofs.Universe.recommends_of.Goals as goal
 
--- what is the soft dependency of a version is one of its dependencies
-own : (u : Universe) (p : Problem) (v place k : ℕ) → (requirement_numbered u k).dependency ≡ dependency p k
-    → is_recommends_of v place (requirement_numbered u k) ≡ true → ((dependency p k).source == v) ≡ true
-own u p v place k same h =
-    let r : Requirement = requirement_numbered u k in
-    let front = (and_parts (r.dependency.soft && (r.dependency.source == v)) (r.group == place) h).0 in
-    ap (λ (d : Dependency). d.source == v) (sym same) ∙ (and_parts r.dependency.soft (r.dependency.source == v) front).1
+ordered : (u : Inside) (now : Universe) → universe_kept u ≡ now → IsKept u → AllPairs StaysBefore now.requirements
+ordered u now is kept = subst (λ (seen : Universe). AllPairs StaysBefore seen.requirements) is kept.order
 
-low-at : (n : ℕ) (items : List ℕ) (i : ℕ) → IsTrue (list_all (λ d. nat_lt d n) items) → i < length items → get_or items i 0 < n
-low-at n items i h less = ltb-true (get_or items i 0) n (AllPass-from_list_all (λ d. nat_lt d n) items h i 0 less)
+is_mine : (u : Inside) (now : Universe) → universe_kept u ≡ now → IsKept u → (v k : ℕ) → ((dependency u.problem k).source == v) ≡ ((requirement_numbered now k).dependency.source == v)
+is_mine u now is kept v k = ap (λ (d : Dependency). d.source == v) (sym (dependency-same u now is kept k))
 
-pub is_recommends_of-requires : goal.is_recommends_of-requires
-is_recommends_of-requires c =
-    let low = low-at (dependency_count c.self.inside.problem) c.deps_of-dep-items.result.now c.loop-dep.dep-index c.deps_of-dep-items.ensures.range c.loop-dep-test.true in
-    omega (arith, count-same c.self.inside c.args.self.now c.self.view_is c.self.invariant, low)
+-- the dependencies of a version, and how many of them stand before a group
+module _ (u : Inside) (now : Universe) (is : universe_kept u ≡ now) (kept : IsKept u) (v place i : ℕ) where
+  abbrev own : List ℕ
+  own = filter (λ d. (dependency u.problem d).source == v) (below (dependency_count u.problem))
+
+  abbrev Split : List ℕ → Type 0
+  Split list = IsPartitionPoint (λ d. is_before place (requirement_numbered now d) ≡ true) (λ d. is_before place (requirement_numbered now d) ≡ false) list i
+
+  abbrev Found : List ℕ → Type 0
+  Found list = Split list → i < length list → is_recommends_of v place (requirement_numbered now (get_or list i 0)) ≡ true → Some (get_or list i 0) ≡ position (is_recommends_of v place) now.requirements
+
+  abbrev Missing : List ℕ → Type 0
+  Missing list = Split list → (i < length list → is_recommends_of v place (requirement_numbered now (get_or list i 0)) ≡ false) → None ≡ position (is_recommends_of v place) now.requirements
+
+  found : (list : List ℕ) → list ≡ own → Found list
+  found list same =
+      subst Found (sym same)
+      (λ split less h.
+      sym (group-found now (ordered u now is kept) v place (dependency_count u.problem) (sym (count-same u now is kept)) (λ d. (dependency u.problem d).source == v) (is_mine u now is kept v) i less
+      (λ j before. split.0 j 0 (omega arith) before) h))
+
+  missing : (list : List ℕ) → list ≡ own → Missing list
+  missing list same =
+      subst Missing (sym same)
+      (λ split other.
+      sym (group-missing now (ordered u now is kept) v place (dependency_count u.problem) (sym (count-same u now is kept)) (λ d. (dependency u.problem d).source == v) (is_mine u now is kept v) i
+      (λ j before. split.0 j 0 (omega arith) before) (λ less. split.1 i 0 (omega arith) less) other))
+
+pub count_before-first-requires : goal.count_before-first-requires
+count_before-first-requires c =
+    let u = c.args.self.now in
+    let P : List ℕ → Type 0 = λ own. IsPartitionedBy (λ dep. is_before c.args.place (requirement_numbered u dep)) own in
+    subst P (sym c.deps_of-own.ensures.list)
+    (parted u (ordered c.self.inside u c.self.view_is c.self.invariant) c.args.version c.args.place (dependency_count c.self.inside.problem) (sym (count-same c.self.inside u c.self.view_is c.self.invariant))
+    (λ k. (dependency c.self.inside.problem k).source == c.args.version) (is_mine c.self.inside u c.self.view_is c.self.invariant c.args.version))
+
+pub returns-in_err-dep : goal.returns-in_err-dep
+returns-in_err-dep c =
+    c.from_residual.ensures
+    ∙ missing c.self.inside c.args.self.now c.self.view_is c.self.invariant c.args.version c.args.place c.count_before-first.result c.deps_of-own.result.now c.deps_of-own.ensures.list
+    c.count_before-first.ensures (λ less. absurd (omega (arith, less, c.in_err-dep.ensures.lookup.3)))
 
 pub returns-then-is_recommends_of : goal.returns-then-is_recommends_of
 returns-then-is_recommends_of c =
     let u = c.args.self.now in
-    let p = c.self.inside.problem in
-    let items : List ℕ = c.deps_of-dep-items.result.now in
-    let i : ℕ = c.loop-dep.dep-index in
-    let test : ℕ → Bool = λ k. is_recommends_of c.args.version c.args.place (requirement_numbered u k) in
-    let mine : ℕ → Bool = λ k. (dependency p k).source == c.args.version in
-    let count = count-same c.self.inside u c.self.view_is c.self.invariant in
-    let low = low-at (dependency_count p) items i c.deps_of-dep-items.ensures.range c.loop-dep-test.true in
-    let Q : List ℕ → Type 0 = λ xs. ((j : ℕ) → j < i → test (get_or xs j 0) ≡ false) → (k : ℕ) → k < dependency_count p → k < get_or xs i 0 → test k ≡ false in
-    let before =
-    subst Q (sym c.deps_of-dep-items.ensures.list)
-    (owned-before test mine (dependency_count p) (λ k _. own u p c.args.version c.args.place k (dependency-same c.self.inside u c.self.view_is c.self.invariant k)) i) in
-    sym (position-some (is_recommends_of c.args.version c.args.place) u.requirements (get_or items i 0) no_requirement (omega (arith, count, low))
-    (λ k less. before c.loop-dep.invariant k (omega (arith, less, low)) less) (sym c.if-is_recommends_of.ensures))
+    let at = c.in_ok-dep.ensures.lookup.3 in
+    let here = at.1 0 in
+    ap Some here
+    ∙ found c.self.inside u c.self.view_is c.self.invariant c.args.version c.args.place c.count_before-first.result c.deps_of-own.result.now c.deps_of-own.ensures.list c.count_before-first.ensures at.0
+    (ap (λ d. is_recommends_of c.args.version c.args.place (requirement_numbered u d)) (sym here) ∙ sym c.is_recommends_of.ensures ∙ c.if-is_recommends_of.true)
 
 pub returns : goal.returns
 returns c =
     let u = c.args.self.now in
-    let p = c.self.inside.problem in
-    let test : ℕ → Bool = λ k. is_recommends_of c.args.version c.args.place (requirement_numbered u k) in
-    let mine : ℕ → Bool = λ k. (dependency p k).source == c.args.version in
-    let count = count-same c.self.inside u c.self.view_is c.self.invariant in
-    let Q : List ℕ → Type 0 = λ xs. (j : ℕ) → j < length xs → test (get_or xs j 0) ≡ false in
-    let none = subst Q c.deps_of-dep-items.ensures.list (λ j less. c.loop-dep.invariant j (omega (arith, less, c.loop-dep-test.false))) in
-    sym (position-none (is_recommends_of c.args.version c.args.place) u.requirements no_requirement
-    (λ k less. owned-none test mine (dependency_count p) (λ k _. own u p c.args.version c.args.place k (dependency-same c.self.inside u c.self.view_is c.self.invariant k)) none k (omega (arith, count, less))))
+    let here = c.in_ok-dep.ensures.lookup.3.1 0 in
+    missing c.self.inside u c.self.view_is c.self.invariant c.args.version c.args.place c.count_before-first.result c.deps_of-own.result.now c.deps_of-own.ensures.list c.count_before-first.ensures
+    (λ less. ap (λ d. is_recommends_of c.args.version c.args.place (requirement_numbered u d)) (sym here) ∙ sym c.is_recommends_of.ensures ∙ c.if-is_recommends_of.false)
