@@ -15,7 +15,12 @@ use Rattle.universe_model.specs.Lists.{map_from, numbers_of}
 use Rattle.universe_model.specs.Meeting.{is_plain, is_within, is_provided_within, is_provided_by, meets_by_name, meets_by_provides, meets, meets_any}
 use Rattle.universe_model.specs.Versions.{Release, Version, concat, is_release_with}
 use Rattle.meeting_index.specs.Carriers.{Carrier, own, provided, has_plain_arch, provided_in, provides_of, provided_by, all_provided, carriers, is_named, version_in, carries, carried, met_under}
+use Rattle.meeting_index.specs.Crowds.{finds_as, meets_under}
 use Rattle.meeting_index.specs.Numbers.{numbers_from}
+use Rattle.meeting_index.specs.Provided.{carrier_of, carriers_listed}
+use Rattle.meeting_index.specs.declared.found.Carriers.{Carriers}
+use Rattle.universe_parts.specs.Listed.{version_listed}
+use Rattle.std.proofs.lemmas.List.{length-map}
 use Rattle.meeting_index.proofs.Numbers.{has-numbers_from, has-numbers_from-or, numbers_from-none, numbers_from-rising, numbers_from-append, found_by_numbers}
 
 has-cases : (test : Carrier → Bool) (x : Carrier) (xs : List Carrier) (c : ℕ) (b : Bool)
@@ -210,3 +215,29 @@ pub found-again : (native : List ℕ) (vs : List Version) (last : Option Item) (
     → (c : ℕ) → (has met c || has (carried native vs item) c) ≡ has met c
 found-again native vs None item met h e = absurd (cc)
 found-again native vs (Some x) item met h e = λ c. ap (λ i. has met c || has (carried native vs i) c) (sym (ap (λ o. unwrap_or o item) e)) ∙ h x refl c
+
+-- what the carriers of a name find is what those of all carriers do that have the name
+pub crowd-carriers : (native : List ℕ) (vs : List Version) (listed : List Carrier) (name numbers : List ℕ) (bound : Option VersionBound) (c : ℕ)
+    → listed ≡ carriers native vs → ((test : ℕ → Bool) → list_any test numbers ≡ list_any test (numbers_of (is_named name) (carriers native vs)))
+    → list_any (finds_as listed bound c) numbers ≡ list_any (meets_under name bound c) (carriers native vs)
+crowd-carriers native vs listed name numbers bound c all named =
+    let cs = carriers native vs in
+    let find = λ (number : ℕ). met_under bound (slice_get cs number) in
+    ap (λ (ls : List Carrier). list_any (finds_as ls bound c) numbers) all
+    ∙ named (finds_as cs bound c)
+    ∙ sym (has-found find (numbers_of (is_named name) cs) c)
+    ∙ ap (λ ns. has ns c)
+    (found_by_numbers 0 (is_named name) find (λ x. met_under bound (Some x)) cs
+    (λ i d lt. ap (met_under bound) (ap (slice_get cs) (zero-add i) ∙ slice_get-get_or cs i d lt))
+    ∙ met_under-filter bound name cs)
+    ∙ has-filter (λ x. is_named name x && x.passes bound) cs c
+
+-- the carriers behind the versions
+pub carrier-behind : (listed : Carriers) (number : ℕ) → length listed.versions.now ≤ number
+    → slice_get (carriers_listed listed) number ≡ slice_get (map carrier_of listed.provided.now) (number - length listed.versions.now)
+carrier-behind listed number le =
+    let versions = listed.versions.now in
+    let long : length (map version_listed versions) ≡ length versions = length-map versions version_listed in
+    let below : length (map version_listed versions) ≤ number = rw long le in
+    slice_get-past 0 (map version_listed versions) (map carrier_of listed.provided.now) number below
+    ∙ ap (λ n. slice_get (map carrier_of listed.provided.now) (number - n)) long

@@ -1,95 +1,153 @@
--- Which carriers stand in the range of a bound.
-use Rattle.std.proofs.Common.{◌≡◌, ◌≤◌, ℕ, ◌∙◌, ap, refl, Bool, true, false, cond, not, ◌&&◌, nat_eq, nat_lt, nat_le, arith}
-use Rattle.std.proofs.lemmas.Bool.Decides.{nat_tests}
-use Rattle.std.specs.Ordering.{is_le, is_lt, nat_cmp, ordering_reverse, ordering_then}
+-- Which carriers are within a bound, where they stand in order.
+use Rattle.std.proofs.Common.{◌≡◌, suc, ◌≤◌, ◌<◌, ◌+◌, ◌-◌, ℕ, ◌∙◌, ap, sym, refl, List, [], ◌∷◌, Bool, true, false, cond, not, ◌&&◌, arith, length, length-drop, get_or, take, drop, subst}
+use Rattle.std.specs.List.{dedup, filter}
+use Rattle.std.specs.List.Sorted.{IsNonDecreasingBy, IsPartitionPoint, IsPartitionedBy, IsSorted, IsStrictlySortedBy}
+use Rattle.std.proofs.lemmas.List.Kept.{IsStrictlySortedBy-dedup}
+use Rattle.std.proofs.lemmas.Map.Keys.{Less-from_sorted}
+use Rattle.meeting_index.specs.CarriedLaws.{carried_order-total}
+use Rattle.std.proofs.lemmas.List.{get_or-drop}
+use Rattle.std.proofs.lemmas.List.Elements.{filter_agree}
+use Rattle.std.proofs.lemmas.List.Sorted.{searchable_from_sorted}
+use Rattle.std.specs.Ordering.{is_eq, is_le, is_lt, ordering_index, ordering_reverse, ordering_then, nat_cmp}
 use Rattle.std.specs.declared.cmp.Ordering.{Ordering}
 use Rattle.std.specs.declared.cmp.Ordering.TheVariants.{Less, Equal, Greater}
+use Rattle.deb_version.specs.Versions.{Parts}
 use Rattle.deb_version.specs.VersionOrder.{version_order}
+use Rattle.deb_version.specs.declared.Version.{Version}
 use Rattle.deb_version.proofs.Keys.{version_order-preorder}
 use Rattle.dep_fields.specs.Operators.{holds}
+use Rattle.dep_fields.specs.Relationships.{bound_of}
+use Rattle.dep_fields.specs.declared.Op.{Op}
 use Rattle.dep_fields.specs.declared.Op.TheVariants as op
 use Rattle.universe_model.proofs.Orders.{order-total}
-use Rattle.deb_version.specs.declared.Version.{Version}
-use Rattle.meeting_index.specs.Crowds.{carried_parts, version_parts}
+use Rattle.meeting_index.specs.Fitting.{carried_order, carried_parts, fits, version_parts}
 use Rattle.meeting_index.specs.declared.carried.Carried.{Carried}
+use Rattle.meeting_index.proofs.CrowdLaws.{parts-read}
+use Rattle.meeting_index.proofs.NamedRuns.{filter-past, filter-run, le-down, lt-down}
 
--- ---- the first and the last number
+-- ---- the order of carriers is that of their versions
 
-le-cases : (a b : Bool) (x y : ℕ) → nat_lt x y ≡ a → nat_eq x y ≡ b → x ≤ y → is_le (cond a Less (cond b Equal Greater)) ≡ true
-le-cases true b x y p q le = refl
-le-cases false true x y p q le = refl
-le-cases false false x y p q le = absurd (grind (arith, nat_tests, p, q, le))
+lt-first : (o n : Ordering) → is_lt (ordering_then o n) ≡ false → is_lt o ≡ false
+lt-first Less n e = e
+lt-first Equal n e = refl
+lt-first Greater n e = refl
 
-first-number : (n : ℕ) → is_le (nat_cmp 0 n) ≡ true
-first-number n = le-cases (nat_lt 0 n) (nat_eq 0 n) 0 n refl refl (omega arith)
+rises : (p : Parts) (xs : List Carried) → IsSorted carried_order xs → IsNonDecreasingBy (λ y. ordering_index (version_order (carried_parts y) p)) xs
+rises p xs sorted =
+    searchable_from_sorted (order-total version_order version_order-preorder) carried_parts xs p
+    (λ k d low lt.
+    lt-first (version_order (carried_parts (get_or xs (k + 1) d)) (carried_parts (get_or xs k d))) (nat_cmp (get_or xs (k + 1) d).number (get_or xs k d).number) (sorted k d low lt))
 
-lt-cases : (a b : Bool) (x y : ℕ) → nat_lt x y ≡ a → nat_le y x ≡ true → is_lt (cond a Less (cond b Equal Greater)) ≡ false
-lt-cases true b x y p le = absurd (grind (arith, nat_tests, p, le))
-lt-cases false true x y p le = refl
-lt-cases false false x y p le = refl
+pub parted-earlier : (p : Parts) (xs : List Carried) → IsSorted carried_order xs → IsPartitionedBy (λ y. is_lt (version_order (carried_parts y) p)) xs
+parted-earlier p xs sorted = λ i j d le lt e.
+    lt-down (version_order (carried_parts (get_or xs i d)) p) (version_order (carried_parts (get_or xs j d)) p) (rises p xs sorted i j d le lt) e
 
-last-number : (m n : ℕ) → nat_le n m ≡ true → is_lt (nat_cmp m n) ≡ false
-last-number m n le = lt-cases (nat_lt m n) (nat_eq m n) m n refl le
+pub parted-not_later : (p : Parts) (xs : List Carried) → IsSorted carried_order xs → IsPartitionedBy (λ y. is_le (version_order (carried_parts y) p)) xs
+parted-not_later p xs sorted = λ i j d le lt e.
+    le-down (version_order (carried_parts (get_or xs i d)) p) (version_order (carried_parts (get_or xs j d)) p) (rises p xs sorted i j d le lt) e
 
--- ---- the order of a carrier's version and that of the bound, and the order of the numbers
+back-again : (o : Ordering) → o ≡ Less → is_lt (ordering_reverse o) ≡ false
+back-again Less e = refl
+back-again Equal e = absurd (cc)
+back-again Greater e = absurd (cc)
 
-less-cases : (o n : Ordering) → is_le n ≡ true → not (is_le (ordering_then (ordering_reverse o) n)) ≡ holds op.Less o
-less-cases Less n e = refl
-less-cases Equal n e = ap not e
-less-cases Greater n e = refl
+-- each before the next one is in order
+pub sorted-dedup : (xs : List Carried) → IsSorted carried_order xs → IsSorted carried_order (dedup (λ x y. is_eq (carried_order x y)) xs)
+sorted-dedup xs sorted = λ k d low lt.
+    let ys = dedup (λ x y. is_eq (carried_order x y)) xs in
+    let strict : IsStrictlySortedBy carried_order ys = IsStrictlySortedBy-dedup carried_order-total (λ x y. refl) xs sorted in
+    ap is_lt (carried_order-total.antisymm (get_or ys (k + 1) d) (get_or ys k d))
+    ∙ back-again (carried_order (get_or ys k d) (get_or ys (k + 1) d)) (Less-from_sorted carried_order ys k (k + 1) d strict (omega arith) lt)
 
-at_most-cases : (o n : Ordering) → is_lt n ≡ false → not (is_lt (ordering_then (ordering_reverse o) n)) ≡ holds op.AtMost o
-at_most-cases Less n e = refl
-at_most-cases Equal n e = ap not e
-at_most-cases Greater n e = refl
+-- ---- those in front of a place and those behind it
 
-equal-cases : (o n m : Ordering) → is_le n ≡ true → is_lt m ≡ false
-    → (is_le (ordering_then (ordering_reverse o) n) && not (is_lt (ordering_then (ordering_reverse o) m))) ≡ holds op.Equal o
-equal-cases Less n m e f = refl
-equal-cases Equal n m e f = ap (λ b. b && not (is_lt m)) e ∙ ap not f
-equal-cases Greater n m e f = refl
+module _ {X : Type 0} (test : X → Bool) where
+  pub front : (n : ℕ) (xs : List X) → IsPartitionPoint (λ x. test x ≡ true) (λ x. test x ≡ false) xs n → take n xs ≡ filter test xs
+  front n xs point = sym (filter-run test n xs (λ k d lt in_list. point.0 k d (omega arith) lt) (λ k d le in_list. point.1 k d le in_list))
 
-at_least-cases : (o n : Ordering) → is_le n ≡ true → (is_le (ordering_then (ordering_reverse o) n) && true) ≡ holds op.AtLeast o
-at_least-cases Less n e = refl
-at_least-cases Equal n e = ap (λ b. b && true) e
-at_least-cases Greater n e = refl
+  -- all pass
+  filter-all : (xs : List X) → ((k : ℕ) (d : X) → k < length xs → test (get_or xs k d) ≡ true) → filter test xs ≡ xs
+  filter-all [] pass = refl
+  filter-all (x ∷ xs) pass =
+      ap (λ b. cond b (x ∷ filter test xs) (filter test xs)) (pass 0 x (omega arith))
+      ∙ ap (λ ys. x ∷ ys) (filter-all xs (λ k d lt. pass (suc k) d (omega arith)))
 
-more-cases : (o n : Ordering) → is_lt n ≡ false → (is_lt (ordering_then (ordering_reverse o) n) && true) ≡ holds op.More o
-more-cases Less n e = refl
-more-cases Equal n e = ap (λ b. b && true) e
-more-cases Greater n e = refl
+module _ {X : Type 0} (test : X → Bool) where
+  pub rest : (n : ℕ) (xs : List X) → n ≤ length xs → IsPartitionPoint (λ x. test x ≡ true) (λ x. test x ≡ false) xs n → drop n xs ≡ filter (λ x. not (test x)) xs
+  rest n xs within point =
+      sym (filter-past (λ x. not (test x)) n xs within (λ k d lt. ap not (point.0 k d (omega arith) lt))
+      ∙ filter-all (λ x. not (test x)) (drop n xs)
+      (λ k d lt.
+      let long : k < length xs - n = subst (λ m. k < m) (length-drop n xs) lt in
+      ap (λ x. not (test x)) (get_or-drop n xs k d) ∙ ap not (point.1 (n + k) d (omega arith) (omega arith))))
 
--- ---- the ranges, from the first and to the last of a version
+both-cases : {X : Type 0} (p q : X → Bool) (x : X) (xs : List X) (a b : Bool) → q x ≡ b
+    → filter q (filter p xs) ≡ filter (λ y. p y && q y) xs
+    → filter q (cond a (x ∷ filter p xs) (filter p xs)) ≡ cond (a && b) (x ∷ filter (λ y. p y && q y) xs) (filter (λ y. p y && q y) xs)
+both-cases p q x xs true true e same = ap (λ b. cond b (x ∷ filter q (filter p xs)) (filter q (filter p xs))) e ∙ ap (λ ys. x ∷ ys) same
+both-cases p q x xs true false e same = ap (λ b. cond b (x ∷ filter q (filter p xs)) (filter q (filter p xs))) e ∙ same
+both-cases p q x xs false b e same = same
 
--- how one of a version with a number compares to another
-abbrev pub probe : Version → ℕ → Carried → Ordering
-probe v number y = ordering_then (version_order (version_parts v) (carried_parts y)) (nat_cmp number y.number)
+filter-both : {X : Type 0} (p q : X → Bool) (xs : List X) → filter q (filter p xs) ≡ filter (λ x. p x && q x) xs
+filter-both p q [] = refl
+filter-both p q (x ∷ xs) = both-cases p q x xs (p x) (q x) refl (filter-both p q xs)
 
-turned : (v : Version) (number : ℕ) (y : Carried) → probe v number y ≡ ordering_then (ordering_reverse (version_order (carried_parts y) (version_parts v))) (nat_cmp number y.number)
-turned v number y =
-    ap (λ o. ordering_then o (nat_cmp number y.number)) ((order-total version_order version_order-preorder).antisymm (version_parts v) (carried_parts y))
+-- ---- the operators
 
-pub less-within : (v : Version) (y : Carried) → not (is_le (probe v 0 y)) ≡ holds op.Less (version_order (carried_parts y) (version_parts v))
-less-within v y =
-    ap (λ o. not (is_le o)) (turned v 0 y) ∙ less-cases (version_order (carried_parts y) (version_parts v)) (nat_cmp 0 y.number) (first-number y.number)
+-- what a test of the order passes is within the bound of an operator that says the same
+by-order : (test : Ordering → Bool) (o oper : Op) (v : Version) → ((r : Ordering) → test r ≡ holds o r) → oper ≡ o → (xs : List Carried)
+    → filter (λ y. test (version_order (carried_parts y) (version_parts v))) xs ≡ filter (fits (bound_of (oper, v))) xs
+by-order test o oper v same is xs =
+    filter_agree (λ y. test (version_order (carried_parts y) (version_parts v))) (fits (bound_of (oper, v)))
+    (λ y.
+    same (version_order (carried_parts y) (version_parts v))
+    ∙ ap (λ p. holds p (version_order (carried_parts y) (version_parts v))) (sym is)
+    ∙ ap (λ p. holds oper (version_order (carried_parts y) p)) (sym (parts-read v))) xs
 
-pub at_most-within : (v : Version) (y : Carried) → not (is_lt (probe v 4294967295 y)) ≡ holds op.AtMost (version_order (carried_parts y) (version_parts v))
-at_most-within v y =
-    ap (λ o. not (is_lt o)) (turned v 4294967295 y)
-    ∙ at_most-cases (version_order (carried_parts y) (version_parts v)) (nat_cmp 4294967295 y.number) (last-number 4294967295 y.number y.within)
+is-less : (r : Ordering) → is_lt r ≡ holds op.Less r
+is-less Less = refl
+is-less Equal = refl
+is-less Greater = refl
 
-pub equal-within : (v : Version) (y : Carried)
-    → (is_le (probe v 0 y) && not (is_lt (probe v 4294967295 y))) ≡ holds op.Equal (version_order (carried_parts y) (version_parts v))
-equal-within v y =
-    ap (λ o. is_le o && not (is_lt (probe v 4294967295 y))) (turned v 0 y)
-    ∙ ap (λ o. is_le (ordering_then (ordering_reverse (version_order (carried_parts y) (version_parts v))) (nat_cmp 0 y.number)) && not (is_lt o)) (turned v 4294967295 y)
-    ∙ equal-cases (version_order (carried_parts y) (version_parts v)) (nat_cmp 0 y.number) (nat_cmp 4294967295 y.number) (first-number y.number) (last-number 4294967295 y.number y.within)
+is-at_most : (r : Ordering) → is_le r ≡ holds op.AtMost r
+is-at_most Less = refl
+is-at_most Equal = refl
+is-at_most Greater = refl
 
-pub at_least-within : (v : Version) (y : Carried) → (is_le (probe v 0 y) && true) ≡ holds op.AtLeast (version_order (carried_parts y) (version_parts v))
-at_least-within v y =
-    ap (λ o. is_le o && true) (turned v 0 y) ∙ at_least-cases (version_order (carried_parts y) (version_parts v)) (nat_cmp 0 y.number) (first-number y.number)
+is-equal : (r : Ordering) → (not (is_lt r) && is_le r) ≡ holds op.Equal r
+is-equal Less = refl
+is-equal Equal = refl
+is-equal Greater = refl
 
-pub more-within : (v : Version) (y : Carried) → (is_lt (probe v 4294967295 y) && true) ≡ holds op.More (version_order (carried_parts y) (version_parts v))
-more-within v y =
-    ap (λ o. is_lt o && true) (turned v 4294967295 y)
-    ∙ more-cases (version_order (carried_parts y) (version_parts v)) (nat_cmp 4294967295 y.number) (last-number 4294967295 y.number y.within)
+is-at_least : (r : Ordering) → not (is_lt r) ≡ holds op.AtLeast r
+is-at_least Less = refl
+is-at_least Equal = refl
+is-at_least Greater = refl
+
+is-more : (r : Ordering) → not (is_le r) ≡ holds op.More r
+is-more Less = refl
+is-more Equal = refl
+is-more Greater = refl
+
+pub less-within : (oper : Op) (v : Version) (xs : List Carried) → oper ≡ op.Less
+    → filter (λ y. is_lt (version_order (carried_parts y) (version_parts v))) xs ≡ filter (fits (bound_of (oper, v))) xs
+less-within oper v xs is = by-order is_lt op.Less oper v is-less is xs
+
+pub at_most-within : (oper : Op) (v : Version) (xs : List Carried) → oper ≡ op.AtMost
+    → filter (λ y. is_le (version_order (carried_parts y) (version_parts v))) xs ≡ filter (fits (bound_of (oper, v))) xs
+at_most-within oper v xs is = by-order is_le op.AtMost oper v is-at_most is xs
+
+pub equal-within : (oper : Op) (v : Version) (xs : List Carried) → oper ≡ op.Equal
+    → filter (λ y. is_le (version_order (carried_parts y) (version_parts v))) (filter (λ y. not (is_lt (version_order (carried_parts y) (version_parts v)))) xs)
+    ≡ filter (fits (bound_of (oper, v))) xs
+equal-within oper v xs is =
+    filter-both (λ y. not (is_lt (version_order (carried_parts y) (version_parts v)))) (λ y. is_le (version_order (carried_parts y) (version_parts v))) xs
+    ∙ by-order (λ r. not (is_lt r) && is_le r) op.Equal oper v is-equal is xs
+
+pub at_least-within : (oper : Op) (v : Version) (xs : List Carried) → oper ≡ op.AtLeast
+    → filter (λ y. not (is_lt (version_order (carried_parts y) (version_parts v)))) xs ≡ filter (fits (bound_of (oper, v))) xs
+at_least-within oper v xs is = by-order (λ r. not (is_lt r)) op.AtLeast oper v is-at_least is xs
+
+pub more-within : (oper : Op) (v : Version) (xs : List Carried) → oper ≡ op.More
+    → filter (λ y. not (is_le (version_order (carried_parts y) (version_parts v)))) xs ≡ filter (fits (bound_of (oper, v))) xs
+more-within oper v xs is = by-order (λ r. not (is_le r)) op.More oper v is-more is xs

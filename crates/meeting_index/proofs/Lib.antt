@@ -5,3 +5,4 @@ pub mod Finding
 pub mod NamedRuns
 pub mod Numbers
 pub mod Shares
+pub mod SideLaws

@@ -54,7 +54,7 @@ order-same x s = order-cases x s (has_bytes s.bytes.now x) refl
 
 -- ---- where what is sought stands
 
-lt-down : (o p : Ordering) → ordering_index o ≤ ordering_index p → is_lt p ≡ true → is_lt o ≡ true
+pub lt-down : (o p : Ordering) → ordering_index o ≤ ordering_index p → is_lt p ≡ true → is_lt o ≡ true
 lt-down Less p le e = refl
 lt-down Equal Less le e = absurd (omega arith)
 lt-down Equal Equal le e = absurd (cc)
@@ -63,7 +63,7 @@ lt-down Greater Less le e = absurd (omega arith)
 lt-down Greater Equal le e = absurd (cc)
 lt-down Greater Greater le e = absurd (cc)
 
-le-down : (o p : Ordering) → ordering_index o ≤ ordering_index p → is_le p ≡ true → is_le o ≡ true
+pub le-down : (o p : Ordering) → ordering_index o ≤ ordering_index p → is_le p ≡ true → is_le o ≡ true
 le-down Less p le e = refl
 le-down Equal p le e = refl
 le-down Greater Less le e = absurd (omega arith)
@@ -126,13 +126,13 @@ any-permuted xs ys p bytes test =
 
 -- ---- the run of a name
 
-pub sorted-drop : (n : ℕ) (xs : List Named) → IsSorted named_order xs → IsSorted named_order (drop n xs)
-sorted-drop zero xs sorted = sorted
-sorted-drop (suc n) [] sorted = sorted
-sorted-drop (suc n) (x ∷ xs) sorted =
-    sorted-drop n xs (λ k d le lt.
+pub sorted-drop : {X : Type 0} (order : X → X → Ordering) (n : ℕ) (xs : List X) → IsSorted order xs → IsSorted order (drop n xs)
+sorted-drop order zero xs sorted = sorted
+sorted-drop order (suc n) [] sorted = sorted
+sorted-drop order (suc n) (x ∷ xs) sorted =
+    sorted-drop order n xs (λ k d le lt.
     let next : suc (k + 1) ≡ suc k + 1 = omega arith in
-    ap (λ m. is_lt (named_order (get_or (x ∷ xs) m d) (get_or (x ∷ xs) (suc k) d))) next ∙ sorted (suc k) d (omega arith) (omega arith))
+    ap (λ m. is_lt (order (get_or (x ∷ xs) m d) (get_or (x ∷ xs) (suc k) d))) next ∙ sorted (suc k) d (omega arith) (omega arith))
 
 lt-apart : (o : Ordering) → is_lt o ≡ true → is_eq o ≡ false
 lt-apart Less e = refl
@@ -185,4 +185,4 @@ sorted-part low n xs within sorted =
     let last : k + 1 < n = omega (arith, long) in
     ap (λ x. is_lt (named_order x (get_or (take n rest) k d))) (get_or-take n rest (k + 1) d last)
     ∙ ap (λ x. is_lt (named_order (get_or rest (k + 1) d) x)) (get_or-take n rest k d (omega arith))
-    ∙ sorted-drop low xs sorted k d le (omega (arith, all))
+    ∙ sorted-drop named_order low xs sorted k d le (omega (arith, all))

@@ -3,7 +3,7 @@ use Rattle.std.specs.Cmp.{IsTotalOrder, nat_cmp_total, on_total, then_total}
 use Rattle.deb_version.specs.VersionOrder.{version_order}
 use Rattle.deb_version.proofs.Keys.{version_order-preorder}
 use Rattle.universe_model.proofs.Orders.{order-total}
-use Rattle.meeting_index.specs.Crowds.{carried_number, carried_order, carried_parts}
+use Rattle.meeting_index.specs.Fitting.{carried_number, carried_order, carried_parts}
 
 pub carried_order-total : IsTotalOrder carried_order
 carried_order-total =

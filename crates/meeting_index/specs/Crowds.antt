@@ -1,60 +1,23 @@
--- Names that many carry, and their carriers in the order of their versions.
-use Rattle.std.specs.Prelude.{◌≡◌, ℕ, Bool, true, false, ◌&&◌, ◌||◌, List, length, nat_eq, nat_lt, Option, Some, None}
-use Rattle.std.specs.List.{list_any}
+-- Names that many carry, and their carriers.
+use Rattle.std.specs.Prelude.{◌≡◌, ◌⊎◌, ℕ, Bool, false, ◌&&◌, List, length, nat_eq, nat_lt, Option, Some, None}
+use Rattle.std.specs.List.{list_any, slice_get}
 use Rattle.std.specs.Map.{lookup}
-use Rattle.std.specs.Ordering.{nat_cmp, on, then_cmp}
-use Rattle.std.specs.declared.cmp.Ordering.{Ordering}
 use Rattle.ascii.specs.Texts.{is_same}
-use Rattle.deb_version.specs.Versions.{Parts, parts}
-use Rattle.deb_version.specs.VersionOrder.{version_order}
-use Rattle.deb_version.specs.declared.Version.{Version}
-use Rattle.dep_fields.specs.Operators.{holds}
 use Rattle.dep_fields.specs.Relationships.{VersionBound}
 use Rattle.lists.specs.Sets.{has}
-use Rattle.meeting_index.specs.Carriers.{Carrier, is_named}
+use Rattle.meeting_index.specs.Carriers.{Carrier, is_named, met_under}
+use Rattle.meeting_index.specs.Fitting.{has_fitting}
+use Rattle.meeting_index.specs.Named.{has_same}
 use Rattle.meeting_index.specs.Tables.{numbers_at}
-use Rattle.meeting_index.specs.declared.carried.Carried.{Carried}
 use Rattle.meeting_index.specs.declared.crowd.Crowd.{Crowd}
 use Rattle.meeting_index.specs.declared.crowds.Crowds.{Crowds}
 use Rattle.meeting_index.specs.declared.named.Name.{Name}
 use Rattle.meeting_index.specs.declared.table.NamedNumbers.{NamedNumbers}
 
-abbrev pub version_parts : Version → Parts
-version_parts v = parts v.text.now
-
--- ---- carriers with a version are ordered by it, and then by the numbers of the versions that they stand for
-
-abbrev pub carried_parts : Carried → Parts
-carried_parts y = version_parts y.version
-
-abbrev pub carried_number : Carried → ℕ
-carried_number y = y.number
-
-abbrev pub carried_order : Carried → Carried → Ordering
-carried_order = then_cmp (on carried_parts version_order) (on carried_number nat_cmp)
-
-abbrev pub is_past : VersionBound → Parts → Bool
-is_past bound version = holds bound.op (version_order version bound.parts)
-
--- whether one of them is within a bound, and stands for the version c
-abbrev pub fits_as : VersionBound → ℕ → Carried → Bool
-fits_as bound c y = is_past bound (carried_parts y) && nat_eq y.number c
-
-abbrev pub has_fitting : List Carried → VersionBound → ℕ → Bool
-has_fitting ys bound c = list_any (fits_as bound c) ys
-
--- ---- the carriers of one name
-
--- whether what is carried in a version, or in none, passes a bound
-abbrev pub passes_with : Option Parts → Option VersionBound → Bool
-passes_with version None = true
-passes_with None (Some bound) = false
-passes_with (Some version) (Some bound) = is_past bound version
-
 -- whether one of a crowd passes a bound, and stands for the version c
 abbrev pub crowd_has : Crowd → Option VersionBound → ℕ → Bool
 crowd_has crowd None c = has crowd.all.items c
-crowd_has crowd (Some bound) c = has_fitting crowd.by_version.keys bound c
+crowd_has crowd (Some bound) c = has_fitting crowd.by_version.items bound c
 
 abbrev pub kept_has : Option Crowd → Option VersionBound → ℕ → Bool
 kept_has None bound c = false
@@ -73,8 +36,19 @@ is_crowd numbers = nat_lt 16 (length numbers)
 abbrev pub meets_under : List ℕ → Option VersionBound → ℕ → Carrier → Bool
 meets_under name bound c carrier = (is_named name carrier && carrier.passes bound) && nat_eq carrier.version c
 
--- the crowds have what they had, and those of more carriers whose names are crowded
-abbrev pub HasMore : NamedNumbers → Crowds → List Carrier → Crowds → Type 0
-HasMore named old more new =
-    (name : Name) → is_crowd (numbers_at named name.bytes.now) ≡ true → (bound : Option VersionBound) (c : ℕ)
-    → crowds_have new name.bytes.now bound c ≡ (crowds_have old name.bytes.now bound c || list_any (meets_under name.bytes.now bound c) more)
+-- whether the carrier with a number passes a bound, and stands for the version c
+abbrev pub finds_as : List Carrier → Option VersionBound → ℕ → ℕ → Bool
+finds_as carriers bound c number = has (met_under bound (slice_get carriers number)) c
+
+-- a crowd has what the carriers with these numbers find
+abbrev pub IsCrowdOf : List Carrier → List ℕ → Crowd → Type 0
+IsCrowdOf carriers numbers crowd = (bound : Option VersionBound) (c : ℕ) → crowd_has crowd bound c ≡ list_any (finds_as carriers bound c) numbers
+
+-- the crowd of a name has what its carriers find
+abbrev pub HasCrowd : List Carrier → NamedNumbers → Crowds → Name → Type 0
+HasCrowd carriers named crowds name =
+    (bound : Option VersionBound) (c : ℕ) → crowds_have crowds name.bytes.now bound c ≡ list_any (finds_as carriers bound c) (numbers_at named name.bytes.now)
+
+-- each name has no crowd, or has that of its carriers
+abbrev pub AreRight : List Carrier → NamedNumbers → Crowds → Type 0
+AreRight carriers named crowds = (name : Name) → (lookup (has_same name) crowds.by_name.entries ≡ None) ⊎ HasCrowd carriers named crowds name

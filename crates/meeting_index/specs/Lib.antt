@@ -2,10 +2,12 @@ pub mod CarriedLaws
 pub mod Carriers
 pub mod Crowds
 pub mod Finding
+pub mod Fitting
 pub mod Given
 pub mod Hashes
 pub mod IndexFields
 pub mod Indexes
+pub mod Members
 pub mod Named
 pub mod NamedLaws
 pub mod Numbers

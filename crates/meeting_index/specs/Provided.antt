@@ -1,7 +1,7 @@
 -- What the carriers of the program are.
 use Rattle.std.specs.Prelude.{List, ◌++◌, map}
 use Rattle.meeting_index.specs.Carriers.{Carrier, own}
-use Rattle.meeting_index.specs.Crowds.{passes_with}
+use Rattle.meeting_index.specs.Fitting.{passes_with}
 use Rattle.meeting_index.specs.Given.{given_parts}
 use Rattle.meeting_index.specs.declared.found.Carriers.{Carriers}
 use Rattle.meeting_index.specs.declared.given.Provided.{Provided}

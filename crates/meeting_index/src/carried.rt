@@ -1,21 +1,21 @@
 // Carriers in the order of their versions.
 
-ghost use Rattle.std.specs.Prelude.{◌≡◌, nat_le, true};
+ghost use Rattle.std.specs.Prelude.{◌≡◌};
 
 use deb_version::{Version, compare};
 use std::cmp::Ordering;
 
-/// What carries a name in a version: that version, and the number of the version of a package that it stands for. They are
-/// ordered by version, and then by number.
+/// What carries a name in a version: that version, the number of the version of a package that it stands for, and the number
+/// of the carrier. They are ordered by version, and then by the number of the version that they stand for.
 #[derive(Clone, Copy)]
 pub struct Carried<'a> {
     pub version: Version<'a>,
     pub number: u32,
-    ghost within: { nat_le number 4294967295 ≡ true },
+    pub carrier: u32,
 }
 
 impl Carried<'_> {
-    ghost use Rattle.meeting_index.specs.Crowds.{carried_order};
+    ghost use Rattle.meeting_index.specs.Fitting.{carried_order};
 
     fn order(&self, other: &Carried<'_>) -> Ordering
         ensures { result ≡ carried_order self.now other.now }
@@ -27,7 +27,7 @@ impl Carried<'_> {
 impl PartialEq for Carried<'_> {
     ghost use Rattle.std.specs.Cmp.{eq_by_cmp_equiv, partial_equiv_from_equiv};
     ghost use Rattle.std.specs.Ordering.{eq_by_cmp};
-    ghost use Rattle.meeting_index.specs.Crowds.{carried_order};
+    ghost use Rattle.meeting_index.specs.Fitting.{carried_order};
     ghost use Rattle.meeting_index.specs.CarriedLaws.{carried_order-total};
 
     ghost eq = { eq_by_cmp carried_order };
@@ -50,7 +50,7 @@ impl PartialOrd for Carried<'_> {
     ghost use Rattle.std.specs.Prelude.{refl};
     ghost use Rattle.std.specs.Cmp.{partial_order_from_agreeing_total};
     ghost use Rattle.std.specs.Ordering.{as_partial_cmp};
-    ghost use Rattle.meeting_index.specs.Crowds.{carried_order};
+    ghost use Rattle.meeting_index.specs.Fitting.{carried_order};
     ghost use Rattle.meeting_index.specs.CarriedLaws.{carried_order-total};
 
     ghost partial_cmp = { as_partial_cmp carried_order };
@@ -64,7 +64,7 @@ impl PartialOrd for Carried<'_> {
 
 impl Ord for Carried<'_> {
     ghost use Rattle.std.specs.Prelude.{refl};
-    ghost use Rattle.meeting_index.specs.Crowds.{carried_order};
+    ghost use Rattle.meeting_index.specs.Fitting.{carried_order};
     ghost use Rattle.meeting_index.specs.CarriedLaws.{carried_order-total};
 
     ghost cmp = { carried_order };

@@ -1,79 +1,115 @@
 // The carriers of one name, where they are many.
 
-ghost use Rattle.std.specs.Prelude.{◌≡◌, ℕ, true, false, ◌&&◌, ◌||◌, nat_eq, IsTrue, Option, OnOk};
+ghost use Rattle.std.specs.Prelude.{◌≡◌, ◌++◌, ◌||◌, ℕ, map, IfOk, OnOk, Option};
 ghost use Rattle.std.specs.Option.{option_map};
-ghost use Rattle.std.specs.Range.Bound.{IsForward};
-ghost use Rattle.std.specs.BTreeMap.Range.{IsLeBy, IsLtBy, range_contains};
-ghost use Rattle.std.specs.BTreeSet.{keys_between};
-ghost use Rattle.std.specs.Prelude.{◌++◌, map};
-ghost use Rattle.deb_version.specs.VersionOrder.{version_order};
-ghost use Rattle.dep_fields.specs.Operators.{holds};
-ghost use Rattle.dep_fields.specs.Relationships.{VersionBound, bound_of};
+ghost use Rattle.std.specs.List.Sorted.{IsSorted};
+ghost use Rattle.dep_fields.specs.Relationships.{bound_of};
 ghost use Rattle.lists.specs.Sets.{has};
-ghost use Rattle.meeting_index.specs.declared.carried.Carried as carried_type;
-ghost use Rattle.meeting_index.specs.Crowds.{carried_number, carried_order, carried_parts, crowd_has, has_fitting, is_past, passes_with, version_parts};
 ghost use Rattle.meeting_index.specs.Finding.{Finds};
+ghost use Rattle.meeting_index.specs.Fitting.{IsSide, carried_number, carried_order, either, has_fitting};
+ghost use Rattle.meeting_index.specs.declared.sides.Side.TheVariants as side;
 
 use crate::carried::Carried;
+use crate::ranges::within;
+use crate::sides::{Side, side_of};
 use choice_set::NoMemory;
 use deb_version::Version;
 use dep_fields::Op;
 use std::alloc::Global;
-use std::collections::BTreeSet;
-use std::ops::Bound;
 
-/// The carriers of one name: the versions that they stand for, and those that have a version in its order.
+/// The carriers of one name: the versions that they stand for, and those that have a version in its order, so that those within
+/// a bound stand in one range. Where a number is carried in several versions, there is one carrier of each number by the least
+/// of its versions, and by the greatest, so that each number is in the range of `<=` or `>=` once.
 #[derive(Drop)]
 pub struct Crowd<'a> {
     all: Vec<u32>,
-    by_version: BTreeSet<Carried<'a>>,
+    by_version: Vec<Carried<'a>>,
+    least: Vec<Carried<'a>>,
+    greatest: Vec<Carried<'a>>,
+    ghost sorted: { IsSorted carried_order by_version.items },
+    ghost least_is: { IsSide side.Least by_version.items least.items },
+    ghost greatest_is: { IsSide side.Greatest by_version.items greatest.items },
 }
 
 impl<'a> Crowd<'a> {
-    /// No carriers.
-    pub fn new(alloc: Global) -> Crowd<'a>
-        ensures { (bound : Option VersionBound) (c : ℕ) → crowd_has result bound c ≡ false }
+    ghost use Rattle.dep_fields.specs.Relationships.{VersionBound};
+    ghost use Rattle.std.specs.Prelude.{Some, None};
+    ghost use Rattle.meeting_index.specs.Crowds.{crowd_has};
+
+    /// A crowd of the versions that all carriers stand for, and of the carriers that have a version, in order.
+    pub fn new(
+        alloc: Global,
+        all: Vec<u32>,
+        by_version: Vec<Carried<'a>>,
+    ) -> Result<Crowd<'a>, NoMemory>
+        requires { IsSorted carried_order by_version.items }
+        ensures all { IfOk result (λ crowd. (c : ℕ) → crowd_has crowd None c ≡ has all.items c) }
+        ensures within { IfOk result (λ crowd. (bound : VersionBound) (c : ℕ) → crowd_has crowd (Some bound) c ≡ has_fitting by_version.entry.items bound c) }
     {
-        Crowd {
-            all: Vec::new(alloc),
-            by_version: BTreeSet::new(alloc),
+        let mut by_number = Vec::from_slice(alloc, by_version.as_slice())?;
+        by_number.sort_by_key(|carried| carried.number)?;
+        let greatest = side_of(alloc, Side::Greatest, by_number.as_slice())?;
+        by_number.reverse();
+        let least = side_of(alloc, Side::Least, by_number.as_slice())?;
+        Ok(Crowd {
+            all,
+            by_version,
+            least,
+            greatest,
+        })
+    }
+
+    /// Adds the versions of the carriers that are within a bound.
+    pub fn add_members(
+        &self,
+        bound: Option<(Op, Version<'_>)>,
+        met: &mut Vec<u32>,
+    ) -> Result<(), NoMemory>
+        ensures { OnOk result ((c : ℕ) → has met.new.items c ≡ (has met.old.items c || crowd_has self.now (option_map bound_of bound.entry) c)) }
+    {
+        match bound {
+            None => Ok(met.extend_from_slice(self.all.as_slice())?),
+            Some((op, version)) => add_numbers(met, self.members(op, &version)),
         }
     }
 
-    /// Adds a carrier with its version, if it has one, and the number of the version that it stands for.
-    pub fn add(&mut self, version: Option<Version<'a>>, number: u32) -> Result<(), NoMemory>
-        ensures { OnOk result ((bound : Option VersionBound) (c : ℕ) → crowd_has self.new bound c ≡ (crowd_has self.old bound c || (passes_with (option_map version_parts version.entry) bound && nat_eq number c))) }
+    /// One of the versions of the carriers that are within a bound, if there is any.
+    pub fn one_member(&self, bound: Option<(Op, Version<'_>)>) -> Option<u32>
+        ensures { Finds (crowd_has self.now (option_map bound_of bound.entry)) result }
     {
-        add_number(&mut self.all, number)?;
-        match version {
-            None => Ok(()),
-            Some(version) => add_carried(&mut self.by_version, Carried { version, number }),
+        match bound {
+            None => first_of(self.all.as_slice()),
+            Some((op, version)) => first_number(self.members(op, &version)),
+        }
+    }
+
+    // Carriers within a bound that stand for all numbers with such a carrier.
+    fn members(&self, op: Op, version: &Version<'_>) -> &[Carried<'a>]
+        ensures { (c : ℕ) → has (map carried_number result.now) c ≡ crowd_has self.now (Some (bound_of (op, version.now))) c }
+    {
+        within(self.looked_at(op), op, version)
+    }
+
+    // The carriers that tell whether the bounds of an operator are met.
+    fn looked_at(&self, op: Op) -> &[Carried<'a>]
+        ensures sorted { IsSorted carried_order result.now }
+        ensures serves { (bound : VersionBound) → bound.op ≡ op → (c : ℕ) → has_fitting result.now bound c ≡ has_fitting self.now.by_version.items bound c }
+    {
+        match op {
+            Op::Less | Op::AtMost => one_or_all(self.least.as_slice(), self.by_version.as_slice()),
+            Op::Equal => self.by_version.as_slice(),
+            Op::AtLeast | Op::More => {
+                one_or_all(self.greatest.as_slice(), self.by_version.as_slice())
+            }
         }
     }
 }
 
-/// Adds the versions of the carriers that are within a bound.
-pub fn add_members<'a>(
-    crowd: &Crowd<'a>,
-    bound: Option<(Op, Version<'a>)>,
-    met: &mut Vec<u32>,
-) -> Result<(), NoMemory>
-    ensures { OnOk result ((c : ℕ) → has met.new.items c ≡ (has met.old.items c || crowd_has crowd.now (option_map bound_of bound.entry) c)) }
+// Some carriers, or all where there are none.
+fn one_or_all<'x, 'a>(some: &'x [Carried<'a>], all: &'x [Carried<'a>]) -> &'x [Carried<'a>]
+    ensures { result.now ≡ either some.now all.now }
 {
-    match bound {
-        None => Ok(met.extend_from_slice(crowd.all.as_slice())?),
-        Some((op, version)) => add_within(&crowd.by_version, op, version, met),
-    }
-}
-
-/// One of the versions of the carriers that are within a bound, if there is any.
-pub fn one_member<'a>(crowd: &Crowd<'a>, bound: Option<(Op, Version<'a>)>) -> Option<u32>
-    ensures { Finds (crowd_has crowd.now (option_map bound_of bound.entry)) result }
-{
-    match bound {
-        None => first_of(crowd.all.as_slice()),
-        Some((op, version)) => one_within(&crowd.by_version, op, version),
-    }
+    if some.is_empty() { all } else { some }
 }
 
 fn first_of(numbers: &[u32]) -> Option<u32>
@@ -85,99 +121,20 @@ fn first_of(numbers: &[u32]) -> Option<u32>
     }
 }
 
-// The version of one of those that are within a bound, if there is any.
-fn one_within<'a>(by_version: &BTreeSet<Carried<'a>>, op: Op, version: Version<'a>) -> Option<u32>
-    ensures { Finds (has_fitting by_version.now.keys (bound_of (op, version.entry))) result }
+fn first_number(list: &[Carried<'_>]) -> Option<u32>
+    ensures { Finds (has (map carried_number list.now)) result }
 {
-    let range = range_of(op, version);
-    one_in_range(by_version, range.0, range.1)
-}
-
-// The version of the first in a range, if there is any.
-fn one_in_range<'a>(
-    by_version: &BTreeSet<Carried<'a>>,
-    start: Bound<Carried<'a>>,
-    end: Bound<Carried<'a>>,
-) -> Option<u32>
-    requires { IsForward (IsLeBy carried_order) (IsLtBy carried_order) start end }
-    ensures { Finds (has (map carried_number (keys_between carried_order start.entry end.entry by_version.now))) result }
-{
-    for carried in by_version.range((start, end)) {
-        return Some(carried.number);
-    }
-    None
-}
-
-fn is_last(numbers: &[u32], number: u32) -> bool
-    ensures { IsTrue result → has numbers.now number ≡ true }
-{
-    !numbers.is_empty() && numbers[numbers.len() - 1] == number
-}
-
-// Adds a number at the end, unless it is the last already.
-fn add_number(numbers: &mut Vec<u32>, number: u32) -> Result<(), NoMemory>
-    ensures { OnOk result ((c : ℕ) → has numbers.new.items c ≡ (has numbers.old.items c || nat_eq number c)) }
-{
-    if is_last(numbers.as_slice(), number) {
-        return Ok(());
-    }
-    Ok(numbers.push(number)?)
-}
-
-// Adds a carrier with a version.
-fn add_carried<'a>(
-    by_version: &mut BTreeSet<Carried<'a>>,
-    carried: Carried<'a>,
-) -> Result<(), NoMemory>
-    ensures { OnOk result ((bound : VersionBound) (c : ℕ) → has_fitting by_version.new.keys bound c ≡ (has_fitting by_version.old.keys bound c || (is_past bound (carried_parts carried.entry) && nat_eq carried.entry.number c))) }
-{
-    by_version.insert(carried)?;
-    Ok(())
-}
-
-// The range of the carriers that are within a bound.
-fn range_of<'a>(op: Op, version: Version<'a>) -> (Bound<Carried<'a>>, Bound<Carried<'a>>)
-    ensures within { (y : carried_type.Carried) → range_contains carried_order result.0 result.1 y ≡ holds op (version_order (carried_parts y) (version_parts version.entry)) }
-    ensures forward { IsForward (IsLeBy carried_order) (IsLtBy carried_order) result.0 result.1 }
-{
-    let first = Carried { version, number: 0 };
-    let last = Carried {
-        version,
-        number: u32::MAX,
-    };
-    match op {
-        Op::Less => (Bound::Unbounded, Bound::Excluded(first)),
-        Op::AtMost => (Bound::Unbounded, Bound::Included(last)),
-        Op::Equal => (Bound::Included(first), Bound::Included(last)),
-        Op::AtLeast => (Bound::Included(first), Bound::Unbounded),
-        Op::More => (Bound::Excluded(last), Bound::Unbounded),
+    match list {
+        [first, ..] => Some(first.number),
+        [] => None,
     }
 }
 
-// Adds the versions of those that are within a bound.
-fn add_within<'a>(
-    by_version: &BTreeSet<Carried<'a>>,
-    op: Op,
-    version: Version<'a>,
-    met: &mut Vec<u32>,
-) -> Result<(), NoMemory>
-    ensures { OnOk result ((c : ℕ) → has met.new.items c ≡ (has met.old.items c || has_fitting by_version.now.keys (bound_of (op, version.entry)) c)) }
+// Adds the versions that carriers stand for.
+fn add_numbers(met: &mut Vec<u32>, list: &[Carried<'_>]) -> Result<(), NoMemory>
+    ensures { OnOk result (met.new.items ≡ met.old.items ++ map carried_number list.now) }
 {
-    let range = range_of(op, version);
-    add_range(by_version, range.0, range.1, met)
-}
-
-// Adds the versions of those in a range.
-fn add_range<'a>(
-    by_version: &BTreeSet<Carried<'a>>,
-    start: Bound<Carried<'a>>,
-    end: Bound<Carried<'a>>,
-    met: &mut Vec<u32>,
-) -> Result<(), NoMemory>
-    requires { IsForward (IsLeBy carried_order) (IsLtBy carried_order) start end }
-    ensures { OnOk result (met.new.items ≡ met.old.items ++ map carried_number (keys_between carried_order start.entry end.entry by_version.now)) }
-{
-    for carried in by_version.range((start, end)) {
+    for carried in list {
         met.push(carried.number)?;
     }
     Ok(())

@@ -1,18 +1,23 @@
-// Crowds by their names.
+// The carriers of the names that many carry.
 
-ghost use Rattle.std.specs.Prelude.{◌≡◌, ℕ, false, ◌&&◌, ◌||◌, nat_eq, None, Option, OnOk};
+ghost use Rattle.std.specs.Prelude.{◌≡◌, ℕ, true, ◌||◌, None, Some, Option, if◌then◌else◌, IfOk, OnOk};
 ghost use Rattle.std.specs.Option.{option_map};
 ghost use Rattle.std.specs.Map.{lookup};
 ghost use Rattle.ascii.specs.Texts.{is_same};
 ghost use Rattle.dep_fields.specs.Relationships.{VersionBound, bound_of};
 ghost use Rattle.lists.specs.Sets.{has};
-ghost use Rattle.meeting_index.specs.Crowds.{crowd_has, crowds_have, kept_has, passes_with, version_parts};
+ghost use Rattle.meeting_index.specs.Crowds.{AreRight, HasCrowd, IsCrowdOf, crowd_has, crowds_have, is_crowd, kept_has};
 ghost use Rattle.meeting_index.specs.Finding.{Finds};
 ghost use Rattle.meeting_index.specs.Named.{has_same};
+ghost use Rattle.meeting_index.specs.Provided.{carriers_listed};
+ghost use Rattle.meeting_index.specs.Tables.{numbers_at};
 
-use crate::crowd::{Crowd, add_members, one_member};
+use crate::crowd::Crowd;
+use crate::found::{Carriers, add_met};
+use crate::members::members;
 use crate::named::Name;
-use choice_set::NoMemory;
+use crate::table::NamedNumbers;
+use choice_set::{NoMemory, make_rising};
 use deb_version::Version;
 use dep_fields::Op;
 use std::alloc::Global;
@@ -24,34 +29,67 @@ pub struct Crowds<'a> {
     by_name: BTreeMap<Name<'a>, Crowd<'a>>,
 }
 
-impl<'a> Crowds<'a> {
-    /// No carriers.
-    pub fn new(alloc: Global) -> Crowds<'a>
-        ensures { (name : Name) (bound : Option VersionBound) (c : ℕ) → crowds_have result name.bytes.now bound c ≡ false }
-    {
-        Crowds {
-            by_name: BTreeMap::new(alloc),
-        }
-    }
+/// Whether a name has too many carriers to look through them one by one.
+pub fn is_crowd(numbers: &[u32]) -> bool
+    ensures { result ≡ is_crowd numbers.now }
+{
+    numbers.len() > 16
+}
 
-    /// Adds a carrier of a name.
-    pub fn add(
-        &mut self,
-        alloc: Global,
-        name: &'a [u8],
-        version: Option<Version<'a>>,
-        number: u32,
-    ) -> Result<(), NoMemory>
-        ensures { OnOk result ((other : Name) (bound : Option VersionBound) (c : ℕ) → crowds_have self.new other.bytes.now bound c ≡ (crowds_have self.old other.bytes.now bound c || (is_same name.now other.bytes.now && (passes_with (option_map version_parts version.entry) bound && nat_eq number c)))) }
-    {
-        let name = Name { bytes: name };
-        if let Some(crowd) = self.by_name.get_mut(&name) {
-            return crowd.add(version, number);
-        }
-        let mut crowd = Crowd::new(alloc);
-        crowd.add(version, number)?;
-        put(&mut self.by_name, name, crowd)
+/// The carriers of all names that are crowded.
+pub fn crowd_carriers<'a>(
+    alloc: Global,
+    named: &NamedNumbers<'a>,
+    carriers: &Carriers<'_, '_, 'a>,
+) -> Result<Crowds<'a>, NoMemory>
+    ensures { IfOk result (λ crowds. (name : Name) → is_crowd (numbers_at named.now name.bytes.now) ≡ true → HasCrowd (carriers_listed carriers.now) named.now crowds name) }
+{
+    let mut crowds = Crowds {
+        by_name: BTreeMap::new(alloc),
+    };
+    for name in named.names() {
+        crowd_name(alloc, &mut crowds, named, carriers, name.bytes)?;
     }
+    Ok(crowds)
+}
+
+// Makes the crowd of a name, if it is crowded and has none.
+fn crowd_name<'a>(
+    alloc: Global,
+    crowds: &mut Crowds<'a>,
+    named: &NamedNumbers<'a>,
+    carriers: &Carriers<'_, '_, 'a>,
+    name: &'a [u8],
+) -> Result<(), NoMemory>
+    requires { AreRight (carriers_listed carriers.now) named.now crowds.old }
+    ensures right { OnOk result (AreRight (carriers_listed carriers.now) named.now crowds.new) }
+    ensures there { OnOk result (is_crowd (numbers_at named.now name.now) ≡ true → (other : Name) → is_same name.now other.bytes.now ≡ true → HasCrowd (carriers_listed carriers.now) named.now crowds.new other) }
+    ensures stay { OnOk result ((other : Name) → HasCrowd (carriers_listed carriers.now) named.now crowds.old other → HasCrowd (carriers_listed carriers.now) named.now crowds.new other) }
+{
+    let numbers = named.at(name);
+    if !is_crowd(numbers) {
+        return Ok(());
+    }
+    if find(&crowds.by_name, name).is_some() {
+        return Ok(());
+    }
+    let crowd = crowd_of(alloc, carriers, numbers)?;
+    put(&mut crowds.by_name, Name { bytes: name }, crowd)
+}
+
+// The crowd of the carriers with these numbers.
+fn crowd_of<'a>(
+    alloc: Global,
+    carriers: &Carriers<'_, '_, 'a>,
+    numbers: &[u32],
+) -> Result<Crowd<'a>, NoMemory>
+    ensures { IfOk result (IsCrowdOf (carriers_listed carriers.now) numbers.now) }
+{
+    let mut all = Vec::new(alloc);
+    add_met(&mut all, carriers, None, numbers)?;
+    make_rising(&mut all);
+    let by_version = members(alloc, carriers, numbers)?;
+    Crowd::new(alloc, all, by_version)
 }
 
 /// Adds the versions of the carriers of a name that are within a bound.
@@ -64,7 +102,7 @@ pub fn add_crowd<'a>(
     ensures { OnOk result ((c : ℕ) → has met.new.items c ≡ (has met.old.items c || crowds_have crowds.now name.now (option_map bound_of bound.entry) c)) }
 {
     match find(&crowds.by_name, name) {
-        Some(crowd) => add_members(crowd, bound, met),
+        Some(crowd) => crowd.add_members(bound, met),
         None => Ok(()),
     }
 }
@@ -78,7 +116,7 @@ pub fn one_of_crowd<'a>(
     ensures { Finds (crowds_have crowds.now name.now (option_map bound_of bound.entry)) result }
 {
     match find(&crowds.by_name, name) {
-        Some(crowd) => one_member(crowd, bound),
+        Some(crowd) => crowd.one_member(bound),
         None => None,
     }
 }
@@ -97,7 +135,7 @@ fn put<'a>(
     crowd: Crowd<'a>,
 ) -> Result<(), NoMemory>
     requires { lookup (has_same name) by_name.old.entries ≡ None }
-    ensures { OnOk result ((other : Name) (bound : Option VersionBound) (c : ℕ) → kept_has (lookup (has_same other) by_name.new.entries) bound c ≡ (kept_has (lookup (has_same other) by_name.old.entries) bound c || (has_same name.entry other && crowd_has crowd.entry bound c))) }
+    ensures { OnOk result ((other : Name) → lookup (has_same other) by_name.new.entries ≡ (if has_same name.entry other then Some crowd.entry else lookup (has_same other) by_name.old.entries)) }
 {
     by_name.insert(name, crowd)?;
     Ok(())

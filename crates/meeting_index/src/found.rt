@@ -8,7 +8,7 @@ ghost use Rattle.universe_model.specs.Versions.{is_release_with};
 ghost use Rattle.universe_model.specs.Meeting.{is_within};
 ghost use Rattle.universe_parts.specs.Listed.{version_listed};
 ghost use Rattle.meeting_index.specs.Carriers.{met_under, own};
-ghost use Rattle.meeting_index.specs.Crowds.{passes_with};
+ghost use Rattle.meeting_index.specs.Fitting.{passes_with};
 ghost use Rattle.lists.specs.Sets.{has};
 ghost use Rattle.meeting_index.specs.Finding.{Finds};
 ghost use Rattle.meeting_index.specs.Given.{given_parts};

@@ -20,7 +20,7 @@ pub struct Provided<'a> {
 }
 
 impl<'a> Provided<'a> {
-    ghost use Rattle.meeting_index.specs.Crowds.{version_parts};
+    ghost use Rattle.meeting_index.specs.Fitting.{version_parts};
     ghost use Rattle.meeting_index.specs.Provided.{carrier_of};
 
     /// What a version provides by an item.

@@ -12,8 +12,7 @@ ghost use Rattle.universe_parts.specs.Listed.{version_listed};
 ghost use Rattle.meeting_index.specs.Carriers.{carried};
 ghost use Rattle.meeting_index.specs.Finding.{Finds};
 
-use crate::crowding::{crowd_carriers, is_crowd};
-use crate::crowds::{Crowds, add_crowd, one_of_crowd};
+use crate::crowds::{Crowds, add_crowd, crowd_carriers, is_crowd, one_of_crowd};
 use crate::found::{Carriers, add_met, first_met};
 use crate::given::Provided;
 use crate::items::is_again;
@@ -77,7 +76,11 @@ impl<'s, 'a> MeetingIndex<'s, 'a> {
     {
         let provided = list_provided(alloc, native, versions)?;
         let named = name_carriers(alloc, versions, provided.as_slice())?;
-        let crowds = crowd_carriers(alloc, &named, versions, provided.as_slice())?;
+        let carriers = Carriers {
+            versions,
+            provided: provided.as_slice(),
+        };
+        let crowds = crowd_carriers(alloc, &named, &carriers)?;
         Ok(MeetingIndex {
             native,
             versions,

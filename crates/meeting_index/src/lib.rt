@@ -4,15 +4,17 @@
 
 mod carried;
 mod crowd;
-mod crowding;
 mod crowds;
 mod found;
 mod given;
 mod index;
 mod items;
+mod members;
 mod named;
 mod naming;
 mod provided;
+mod ranges;
+mod sides;
 mod table;
 
 pub use index::MeetingIndex;

@@ -41,6 +41,13 @@ impl<'a> NamedNumbers<'a> {
         })
     }
 
+    /// The names, those with the same bytes behind one another.
+    pub fn names(&self) -> &[Named<'a>]
+        ensures { result.now ≡ self.now.names.items }
+    {
+        self.names.as_slice()
+    }
+
     /// The numbers at a name.
     pub fn at<'x>(&'x self, name: &'x [u8]) -> &'x [u32]
         ensures { result.now ≡ numbers_at self.now name.now }

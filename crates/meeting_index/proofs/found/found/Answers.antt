@@ -1,15 +1,13 @@
 -- The carrier with a number is the version with it, or what is provided at the place behind all versions.
-use Rattle.std.proofs.Common.{ℕ, ◌≡◌, ◌∙◌, sym, ap, zero-add, map, length, ◌≤◌, ◌-◌, None, Some, get_or}
+use Rattle.std.proofs.Common.{◌≡◌, ◌∙◌, sym, ap, zero-add, map, length, ◌-◌, None, Some, get_or}
 use Rattle.std.specs.List.{slice_get}
 use Rattle.std.specs.Option.{option_map}
-use Rattle.std.proofs.lemmas.List.{length-map}
 use Rattle.std.proofs.lemmas.Option.{slice_get-map, slice_get-get_or, slice_get_past}
 use Rattle.dep_fields.specs.Relationships.{bound_of}
 use Rattle.meeting_index.specs.Carriers.{met_under, own}
-use Rattle.meeting_index.specs.Provided.{carrier_of, carriers_listed}
-use Rattle.meeting_index.proofs.CarrierLists.{slice_get-own, slice_get-past}
+use Rattle.meeting_index.specs.Provided.{carrier_of}
+use Rattle.meeting_index.proofs.CarrierLists.{carrier-behind, slice_get-own}
 use Rattle.universe_parts.specs.Listed.{version_listed}
-use Rattle.meeting_index.specs.declared.found.Carriers.{Carriers}
 use Rattle.meeting_index.proofs.found.found.Goals as goal
 
 pub returns-then-place-own : goal.returns-then-place-own
@@ -25,16 +23,6 @@ returns-then-place-own c =
     (sym (slice_get-own 0 (map version_listed versions) (map carrier_of c.args.carriers.now.provided.now) place (version_listed version) there
     ∙ ap (λ m. Some (own m (version_listed version))) (zero-add place)))
 
--- behind the versions
-past : (carriers : Carriers) (number : ℕ) → length carriers.versions.now ≤ number
-    → slice_get (carriers_listed carriers) number ≡ slice_get (map carrier_of carriers.provided.now) (number - length carriers.versions.now)
-past carriers number le =
-    let versions = carriers.versions.now in
-    let long : length (map version_listed versions) ≡ length versions = length-map versions version_listed in
-    let below : length (map version_listed versions) ≤ number = rw long le in
-    slice_get-past 0 (map version_listed versions) (map carrier_of carriers.provided.now) number below
-    ∙ ap (λ n. slice_get (map carrier_of carriers.provided.now) (number - n)) long
-
 pub returns-then-place-own-2 : goal.returns-then-place-own-2
 returns-then-place-own-2 c =
     let provided = c.args.carriers.now.provided.now in
@@ -43,7 +31,7 @@ returns-then-place-own-2 c =
     let there : slice_get (map carrier_of provided) place ≡ Some (carrier_of item) =
     slice_get-map carrier_of provided place
     ∙ ap (option_map carrier_of) (slice_get-get_or provided place c.index-carriers-place-then-place-own-2.result c.if-place-own-2.true) in
-    c.provided_found.ensures ∙ ap (met_under (option_map bound_of c.args.bound)) (sym (past c.args.carriers.now c.args.number c.if-place-own.false ∙ there))
+    c.provided_found.ensures ∙ ap (met_under (option_map bound_of c.args.bound)) (sym (carrier-behind c.args.carriers.now c.args.number c.if-place-own.false ∙ there))
 
 pub returns-else-place-own-2 : goal.returns-else-place-own-2
 returns-else-place-own-2 c =
@@ -51,4 +39,4 @@ returns-else-place-own-2 c =
     let place = c.args.number - length c.args.carriers.now.versions.now in
     let none : slice_get (map carrier_of provided) place ≡ None =
     slice_get-map carrier_of provided place ∙ ap (option_map carrier_of) (slice_get_past provided place c.if-place-own-2.false) in
-    ap (met_under (option_map bound_of c.args.bound)) (sym (past c.args.carriers.now c.args.number c.if-place-own.false ∙ none))
+    ap (met_under (option_map bound_of c.args.bound)) (sym (carrier-behind c.args.carriers.now c.args.number c.if-place-own.false ∙ none))
