@@ -1,6 +1,5 @@
 -- The packages that an item concerns, found by a walk over the versions that meet it.
 use Rattle.std.proofs.Common.{inl, inr, ◌≡◌, ◌≢◌, ◌<◌, ◌≤◌, ◌+◌, ℕ, zero, suc, List, [], ◌∷◌, ◌++◌, Bool, true, false, ◌&&◌, ◌||◌, not, cond, length, map, refl, ap, sym, ◌∙◌, arith, nat_lt, nat_le, nat_eq, get_or}
-use Rattle.std.specs.Prelude.{◌==◌}
 use Rattle.std.specs.List.{filter, list_all}
 use Rattle.std.proofs.lemmas.Bool.{and_from, and_parts, lt-ltb, le-ltb, ltb-true, ltb-false, le-leb, eqb-true, eq-eqb, false_from_ne_true, and_right}
 use Rattle.std.proofs.lemmas.Bool.Decides.{nat_tests}
@@ -17,12 +16,14 @@ use Rattle.problem.proofs.Ranges.{package_from, place_from, end_of-range, less_i
 use Rattle.universe_model.specs.Lists.{numbers_of}
 use Rattle.universe_model.specs.Versions.{Version, is_of}
 use Rattle.universe_model.specs.Meeting.{meets}
-use Rattle.universe_model.specs.Dependencies.{Setting, is_met_in, unmet_in, avoided}
+use Rattle.universe_model.specs.Dependencies.{Setting, is_met_in, unmet_in}
 use Rattle.dep_fields.specs.Relationships.{Relationship}
-use Rattle.requirement_list.specs.declared.collected.Field.TheVariants.{Conflicts}
-use Rattle.requirement_list.specs.Fields.{requirement_of}
+use Rattle.requirement_list.specs.declared.answers.Extent.{Extent}
+use Rattle.requirement_list.specs.Extents.{lists}
+use Rattle.requirement_list.specs.Left.{Left}
+use Rattle.requirement_list.specs.Answers.{left_by}
 use Rattle.requirement_list.specs.Settings.{owners_of}
-use Rattle.requirement_list.specs.Conflicts.{left_of, of_package}
+use Rattle.requirement_list.specs.Conflicts.{left_of, package_left}
 use Rattle.requirement_list.proofs.Numbers.{passes, has_numbers, numbers_rise}
 use Rattle.requirement_list.proofs.Unmet.{unmet_rises}
 use Rattle.requirement_list.proofs.Meets.{passes_any, any_passes, passes_both, passes_not, passes_past, passes_owner, passes_there}
@@ -96,21 +97,13 @@ left_unmet s item p w e q =
 
 -- ---- the packages that an item concerns
 
--- whether the item concerns a package
-abbrev pub is_concerned : Setting → ℕ → Relationship → ℕ → Bool
-is_concerned s own item q = not (q == own) && is_met_in s item q
-
 -- those from one package on
-abbrev pub concerned_from : Setting → ℕ → Relationship → ℕ → List ℕ
-concerned_from s own item next = filter (λ q. nat_le next q && is_concerned s own item q) (below (length s.installed))
+abbrev pub packages_from : Setting → Relationship → ℕ → List ℕ
+packages_from s item next = filter (λ q. nat_le next q && is_met_in s item q) (below (length s.installed))
 
 -- the package of the met version at a place
 abbrev pub owner_at : Setting → Relationship → ℕ → ℕ
 owner_at s item k = get_or (owners_of s.versions) (get_or (met_of s item) k 0) 0
-
-filter_same : (p q : ℕ → Bool) (xs : List ℕ) → ((c : ℕ) → p c ≡ q c) → filter p xs ≡ filter q xs
-filter_same p q [] h = refl
-filter_same p q (x ∷ xs) h = rw (h x, filter_same p q xs h) refl
 
 -- a package of no met version
 pub none_met : (s : Setting) (item : Relationship) (q : ℕ) → ((k : ℕ) → k < length (met_of s item) → owner_at s item k ≢ q) → is_met_in s item q ≡ false
@@ -135,14 +128,14 @@ one_met s item k lt =
     let of_it : passes (is_of q) s.versions n ≡ true = passes_owner q s.versions n (passes_there m s.versions n met) ∙ eq-eqb q q refl in
     any_passes (λ v. is_of q v && m v) s.versions n (passes_both (is_of q) m s.versions n ∙ and_from _ _ of_it met)
 
-pub concerned_none : (s : Setting) (own : ℕ) (item : Relationship) (next : ℕ) → ((k : ℕ) → k < length (met_of s item) → owner_at s item k < next) → concerned_from s own item next ≡ []
-concerned_none s own item next h = filter-below_none (λ q. nat_le next q && is_concerned s own item q) (length s.installed) each
+pub packages_none : (s : Setting) (item : Relationship) (next : ℕ) → ((k : ℕ) → k < length (met_of s item) → owner_at s item k < next) → packages_from s item next ≡ []
+packages_none s item next h = filter-below_none (λ q. nat_le next q && is_met_in s item q) (length s.installed) each
   where
-    each : (q : ℕ) → q < length s.installed → (nat_le next q && is_concerned s own item q) ≡ false
+    each : (q : ℕ) → q < length s.installed → (nat_le next q && is_met_in s item q) ≡ false
     each q lt =
-        elim (nat_le next q) as (λ r. nat_le next q ≡ r → (r && is_concerned s own item q) ≡ false) [
+        elim (nat_le next q) as (λ r. nat_le next q ≡ r → (r && is_met_in s item q) ≡ false) [
           | true ↦ λ t. let le : next ≤ q = grind (arith, nat_tests) in
-              and_right (not (q == own)) (is_met_in s item q) (none_met s item q (λ k less same. omega (arith, h k less)))
+              none_met s item q (λ k less same. omega (arith, h k less))
           | false ↦ λ _. refl
         ] refl
 
@@ -212,21 +205,8 @@ split_yes t next q n le lt none yes_q =
     same : (c : ℕ) → ((nat_le next c && t c) && nat_lt c n) ≡ (nat_eq q c || ((nat_le (q + 1) c && t c) && nat_lt c n))
     same c = same_at t next q n c le lt (none c) (λ e. ap t e ∙ yes_q)
 
-split_no : (t : ℕ → Bool) (next q n : ℕ) → next ≤ q → ((r : ℕ) → next ≤ r → r < q → t r ≡ false) → t q ≡ false
-    → filter (λ x. nat_le next x && t x) (below n) ≡ filter (λ x. nat_le (q + 1) x && t x) (below n)
-split_no t next q n le none no_q = filter_same (λ x. nat_le next x && t x) (λ x. nat_le (q + 1) x && t x) (below n) each
-  where
-    each : (c : ℕ) → (nat_le next c && t c) ≡ (nat_le (q + 1) c && t c)
-    each c =
-        elim (nat_eq q c) as (λ r. nat_eq q c ≡ r → (nat_le next c && t c) ≡ (nat_le (q + 1) c && t c)) [
-          | true ↦ λ e.
-              let no : t c ≡ false = ap t (sym (eqb-true q c e)) ∙ no_q in
-              and_right (nat_le next c) (t c) no ∙ sym (and_right (nat_le (q + 1) c) (t c) no)
-          | false ↦ λ e. front t next q c le (none c) e
-        ] refl
-
 -- a problem with the packages of the versions
-version_size : (p : Problem) (vs : List Version) → p.owners ≡ owners_of vs → version_count p ≡ length vs
+pub version_size : (p : Problem) (vs : List Version) → p.owners ≡ owners_of vs → version_count p ≡ length vs
 version_size p vs e = ap length e ∙ length-map vs (λ (v : Version). v.package_number)
 
 owner_is : (p : Problem) (vs : List Version) → p.owners ≡ owners_of vs → (c : ℕ) → package_of p c ≡ get_or (owners_of vs) c 0
@@ -241,22 +221,10 @@ met_there s item p e k lt =
 
 -- Where the met versions before a place are of packages before the next one, the package of the version at the place is the
 -- first from there on that has a met version.
-pub concerned_next : (s : Setting) (source own : ℕ) (item : Relationship) (p : Problem) → IsWellFormed p → p.owners ≡ owners_of s.versions → p.starts ≡ s.installed
+pub packages_next : (s : Setting) (item : Relationship) (p : Problem) → IsWellFormed p → p.owners ≡ owners_of s.versions → p.starts ≡ s.installed
     → (k next : ℕ) → k < length (met_of s item) → next ≤ owner_at s item k → ((j : ℕ) → j < k → owner_at s item j < next)
-    → map (avoided s source item) (concerned_from s own item next)
-    ≡ of_package p source own (met_of s item) (owner_at s item k) ++ map (avoided s source item) (concerned_from s own item (owner_at s item k + 1))
-concerned_next s source own item p w e installed k next lt le before =
-    elim (nat_eq q own) as (λ r. nat_eq q own ≡ r → map (avoided s source item) (concerned_from s own item next)
-    ≡ cond r [] (requirement_of Conflicts source (left_of p met q) ∷ []) ++ map (avoided s source item) (concerned_from s own item (q + 1))) [
-      | true ↦ λ same.
-          let no : is_concerned s own item q ≡ false = ap (λ r. not r && is_met_in s item q) same in
-          ap (map (avoided s source item)) (split_no (is_concerned s own item) next q count le none no)
-      | false ↦ λ apart.
-          let there : is_concerned s own item q ≡ true = ap (λ r. not r && is_met_in s item q) apart ∙ one_met s item k lt in
-          let split = split_yes (is_concerned s own item) next q count le range none there in
-          let first : avoided s source item q ≡ requirement_of Conflicts source (left_of p met q) = ap (requirement_of Conflicts source) (sym (left_unmet s item p w e q)) in
-          ap (map (avoided s source item)) split ∙ ap (λ r. r ∷ map (avoided s source item) (concerned_from s own item (q + 1))) first
-    ] refl
+    → packages_from s item next ≡ owner_at s item k ∷ packages_from s item (owner_at s item k + 1)
+packages_next s item p w e installed k next lt le before = split_yes (is_met_in s item) next q count le range none (one_met s item k lt)
   where
     met : List ℕ
     met = met_of s item
@@ -281,8 +249,8 @@ concerned_next s source own item p w e installed k next lt le before =
         let up = owners_rise p w (get_or met k 0) (get_or met j 0) (rising_upto met (numbers_rise (meets s.native item) s.versions) k j from less) (there j less) in
         omega (arith, owner (get_or met k 0), owner (get_or met j 0), up)
 
-    none : (r : ℕ) → next ≤ r → r < q → is_concerned s own item r ≡ false
-    none r from upto = and_right (not (r == own)) (is_met_in s item r) (none_met s item r apart)
+    none : (r : ℕ) → next ≤ r → r < q → is_met_in s item r ≡ false
+    none r from upto = none_met s item r apart
       where
         apart : (j : ℕ) → j < length met → owner_at s item j ≢ r
         apart j less same =
@@ -340,11 +308,20 @@ pub walk_after : (s : Setting) (item : Relationship) (p : Problem) (met : List �
 walk_after s item p met place next q h w e =
     rw (h.all_met, walk_package s item p met place next q h e) (met_from s item p w h.owners place (walk_there s item p met place next h))
 
-pub walk_next : (s : Setting) (source own : ℕ) (item : Relationship) (p : Problem) (met : List ℕ) (place next q : ℕ) → IsWalk s item p met place next → IsWellFormed p → q ≡ package_of p (get_or met place 0) → next ≤ q
-    → map (avoided s source item) (concerned_from s own item next) ≡ of_package p source own met q ++ map (avoided s source item) (concerned_from s own item (q + 1))
-walk_next s source own item p met place next q h w e le =
+-- what is listed of the package, and of those behind it
+package_is : (s : Setting) (item : Relationship) (p : Problem) (extent : Extent) (met : List ℕ) (q : ℕ) → IsWellFormed p → p.owners ≡ owners_of s.versions → met ≡ met_of s item
+    → left_by s item extent q ≡ package_left p extent met q
+package_is s item p extent met q w owners all_met =
+    ap (λ vs. let left : Left = record { owner = q; versions = cond (lists extent q) vs [] } in left)
+    (sym (left_unmet s item p w owners q) ∙ ap (λ ms. left_of p ms q) (sym all_met))
+
+pub walk_next : (s : Setting) (item : Relationship) (p : Problem) (extent : Extent) (met : List ℕ) (place next q : ℕ) → IsWalk s item p met place next → IsWellFormed p → q ≡ package_of p (get_or met place 0) → next ≤ q
+    → map (left_by s item extent) (packages_from s item next) ≡ package_left p extent met q ∷ map (left_by s item extent) (packages_from s item (q + 1))
+walk_next s item p extent met place next q h w e le =
     let at = walk_package s item p met place next q h e in
-    rw (h.all_met, at) (concerned_next s source own item p w h.owners h.starts place next (walk_there s item p met place next h) (omega (arith, at)) h.passed)
+    let split : packages_from s item next ≡ q ∷ packages_from s item (q + 1) =
+    rw at (packages_next s item p w h.owners h.starts place next (walk_there s item p met place next h) (omega (arith, at)) h.passed) in
+    ap (map (left_by s item extent)) split ∙ ap (λ left. left ∷ map (left_by s item extent) (packages_from s item (q + 1))) (package_is s item p extent met q w h.owners h.all_met)
 
 pub walk_passed : (s : Setting) (item : Relationship) (p : Problem) (met : List ℕ) (place next q after : ℕ) → IsWalk s item p met place next → q ≡ package_of p (get_or met place 0) → next ≤ after → q < after
     → (k : ℕ) → k < place + 1 → owner_at s item k < after

@@ -5,5 +5,7 @@ pub mod KeptInstalled
 pub mod Unmet
 pub mod Meets
 pub mod Concerned
+pub mod FlatLeft
+pub mod Rows
 pub mod Releases
 pub mod Wholes

@@ -2,5 +2,8 @@ pub mod RequirementLists
 pub mod Settings
 pub mod Fields
 pub mod Conflicts
+pub mod Left
+pub mod Extents
+pub mod Answers
 pub mod Collecting
 pub mod Installed

@@ -2,6 +2,7 @@
 use Rattle.std.specs.Prelude.{◌≡◌, ℕ, true, List, length, map, nat_lt}
 use Rattle.std.specs.List.{list_all}
 use Rattle.lists.specs.Sets.{is_rising}
+use Rattle.resolver_model.specs.Problems.{Problem}
 use Rattle.dep_fields.specs.Relationships.{Relationship}
 use Rattle.universe_model.specs.Lists.{numbers_of}
 use Rattle.universe_model.specs.Meeting.{meets_any}
@@ -17,8 +18,11 @@ package_number_of v = v.package_number
 abbrev pub owners_of : List Version → List ℕ
 owners_of versions = map package_number_of versions
 
+abbrev pub setting_in : Indexed → Problem → Setting
+setting_in index p = record { native = index.native; versions = index.versions; installed = p.starts }
+
 abbrev pub setting_of : Indexed → Collected → Setting
-setting_of index c = record { native = index.native; versions = index.versions; installed = c.builder.starts }
+setting_of index c = setting_in index c.builder
 
 -- the targets of a group: they rise, and are versions
 pub record AreTargets (index : Indexed) (group : List Relationship) (targets : List ℕ) : Type 0 where

@@ -121,7 +121,8 @@ impl Collected {
     /// Counts a dependency, once there are too many targets: then it does not matter which its own are.
     pub fn count_one(&mut self) -> Result<(), BuildEnd>
         requires { self.old.past ≡ true }
-        ensures { (r : Requirement) → Adds (r ∷ []) self.old result self.new }
+        ensures adds { (r : Requirement) → Adds (r ∷ []) self.old result self.new }
+        ensures past { self.new.past ≡ true }
     {
         if self.count < MOST_DEPENDENCIES as u64 {
             self.count += 1;

@@ -12,12 +12,17 @@ ghost use Rattle.universe_parts.specs.Listed.{version_listed};
 ghost use Rattle.requirement_list.specs.Settings.{owners_of};
 ghost use Rattle.requirement_list.specs.RequirementLists.{IsRequirementList, requirement_refusal};
 
+mod answers;
 mod collected;
 mod conflicts;
 mod groups;
 mod installed;
+mod item_key;
+mod left;
 mod versions;
+mod walk;
 
+use answers::Answers;
 use collected::Collected;
 use installed::list_installed;
 use meeting_index::MeetingIndex;
@@ -26,6 +31,7 @@ use std::alloc::Global;
 use universe_model::BuildEnd;
 use universe_parts::ListedVersion;
 use versions::add_versions;
+use walk::Walk;
 
 /// The problem with all dependencies, and for each of them the place from 1 of its group in Recommends, 0 for another field,
 /// and whether it is one of Conflicts or Breaks.
@@ -43,11 +49,12 @@ struct Indexes<'i, 's, 'a> {
     installed: MeetingIndex<'i, 'a>,
 }
 
-// Room that is used again for each dependency: for the versions that meet an item, and for targets.
+// Room that is used again for each dependency, and what was listed of items of Conflicts and Breaks.
 #[derive(Drop)]
-struct Room {
-    met: Vec<u32>,
+struct Room<'a> {
     targets: Vec<u32>,
+    walk: Walk,
+    answers: Answers<'a>,
 }
 
 /// Lists the dependencies of all versions in order, as a problem over the packages of the builder, which has the installed
@@ -76,8 +83,9 @@ pub fn list_requirements<'s, 'a>(
     let indexes = Indexes { all, installed };
     let mut collected = Collected::new(alloc, builder);
     let mut room = Room {
-        met: Vec::new(alloc),
         targets: Vec::new(alloc),
+        walk: Walk::new(alloc),
+        answers: Answers::new(alloc),
     };
     add_versions(&indexes, &mut collected, versions, &mut room)?;
     collected.finish()

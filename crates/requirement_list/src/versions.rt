@@ -1,6 +1,6 @@
 //! The dependencies of a version, and of all versions in order.
 
-ghost use Rattle.std.specs.Prelude.{◌≡◌, ◌<◌, ◌≤◌, true, IsTrue, Some, map, length};
+ghost use Rattle.std.specs.Prelude.{◌≡◌, ◌<◌, ◌≤◌, true, IsTrue, Some, map, length, OnOk};
 ghost use Rattle.std.specs.List.{list_all};
 ghost use Rattle.problem.specs.Limits.{most_versions};
 ghost use Rattle.universe_model.specs.Versions.{groups_of, release_of};
@@ -10,6 +10,7 @@ ghost use Rattle.universe_parts.specs.Listed.{stanza_read, version_listed};
 ghost use Rattle.requirement_list.specs.Settings.{owners_of, setting_of};
 ghost use Rattle.requirement_list.specs.Collecting.{Adds};
 ghost use Rattle.requirement_list.specs.Installed.{HasInstalled};
+ghost use Rattle.requirement_list.specs.Answers.{AreRows};
 
 use crate::collected::Collected;
 use crate::conflicts::add_conflicts;
@@ -25,13 +26,15 @@ fn add_release<'a>(
     source: u32,
     own: u32,
     read: &ReadStanza<'a>,
-    room: &mut Room,
+    room: &mut Room<'a>,
 ) -> Result<(), BuildEnd>
     requires owners { collected.old.builder.owners ≡ owners_of indexes.now.all.versions }
     requires installed { HasInstalled collected.old.builder.starts indexes.now }
+    requires kept { AreRows (setting_of indexes.now.all collected.old) room.old.answers }
     requires source { source < length indexes.now.all.versions }
     requires few { length (groups_of read.now.stanza.recommends.now) ≤ most_groups }
-    ensures { Adds (of_release (setting_of indexes.now.all collected.old) source own (Some (release_of (stanza_read read.now)))) collected.old result collected.new }
+    ensures adds { Adds (of_release (setting_of indexes.now.all collected.old) source own (Some (release_of (stanza_read read.now)))) collected.old result collected.new }
+    ensures kept { OnOk result (AreRows (setting_of indexes.now.all collected.old) room.new.answers) }
 {
     let stanza = &read.stanza;
     let index = &indexes.all;
@@ -60,13 +63,15 @@ pub fn add_version<'a>(
     collected: &mut Collected,
     source: u32,
     version: &ListedVersion<'_, 'a>,
-    room: &mut Room,
+    room: &mut Room<'a>,
 ) -> Result<(), BuildEnd>
     requires owners { collected.old.builder.owners ≡ owners_of indexes.now.all.versions }
     requires installed { HasInstalled collected.old.builder.starts indexes.now }
+    requires kept { AreRows (setting_of indexes.now.all collected.old) room.old.answers }
     requires source { source < length indexes.now.all.versions }
     requires few { are_groups_few (version_listed version.now) ≡ true }
-    ensures { Adds (of_version (setting_of indexes.now.all collected.old) source (version_listed version.now)) collected.old result collected.new }
+    ensures adds { Adds (of_version (setting_of indexes.now.all collected.old) source (version_listed version.now)) collected.old result collected.new }
+    ensures kept { OnOk result (AreRows (setting_of indexes.now.all collected.old) room.new.answers) }
 {
     match version.read {
         None => Ok(()),
@@ -79,14 +84,16 @@ pub fn add_versions<'a>(
     indexes: &Indexes<'_, '_, 'a>,
     collected: &mut Collected,
     versions: &[ListedVersion<'_, 'a>],
-    room: &mut Room,
+    room: &mut Room<'a>,
 ) -> Result<(), BuildEnd>
     requires owners { collected.old.builder.owners ≡ owners_of indexes.now.all.versions }
     requires all { indexes.now.all.versions ≡ map version_listed versions.now }
     requires installed { HasInstalled collected.old.builder.starts indexes.now }
+    requires kept { AreRows (setting_of indexes.now.all collected.old) room.old.answers }
     requires few { length versions.now ≤ most_versions }
     requires groups { IsTrue (list_all are_groups_few (map version_listed versions.now)) }
-    ensures { Adds (requirements (setting_of indexes.now.all collected.old)) collected.old result collected.new }
+    ensures adds { Adds (requirements (setting_of indexes.now.all collected.old)) collected.old result collected.new }
+    ensures kept { OnOk result (AreRows (setting_of indexes.now.all collected.old) room.new.answers) }
 {
     for (number, version) in versions.iter().enumerate() {
         add_version(indexes, collected, number as u32, version, room)?;

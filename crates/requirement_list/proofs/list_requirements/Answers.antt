@@ -25,7 +25,7 @@ pub returns-in_err-add_versions : goal.returns-in_err-add_versions
 returns-in_err-add_versions c =
     let same = same_setting c.in_ok-all.all (record { native = c.args.native.now; versions = map version_listed c.args.versions.now }) c.new-collected.result c.args.builder c.in_ok-all.ensures c.new-collected.ensures.builder in
     let rs = requirements (setting_of c.in_ok-all.all c.new-collected.result) in
-    let end = whole_end rs c.new-collected.result _ (c.new-collected.ensures.left rs) c.in_err-add_versions.ensures in
+    let end = whole_end rs c.new-collected.result _ (c.new-collected.ensures.left rs) c.in_err-add_versions.ensures.adds in
     let e = err_from_is_err_and c.from_residual-in_err-add_versions.result c.from_residual-in_err-add_versions.ensures.1 in
     let P : List Requirement → Type 0 = λ rs. IsEndOf rs c.in_err-add_versions.field-0.0 in
     rw (e.1, e.2) (subst P (ap requirements same) end)
@@ -36,7 +36,7 @@ returns c =
     let old = c.new-collected.result in
     let new = c.add_versions.new.collected in
     let rs = requirements (setting_of c.in_ok-all.all old) in
-    let come = c.in_ok-add_versions.ensures in
+    let come = c.in_ok-add_versions.ensures.adds in
     let left = whole_left rs old new (c.new-collected.ensures.left rs) come in
     let owners = come.owners ∙ ap (λ (p : Problem). p.owners) c.new-collected.ensures.builder in
     let starts = come.starts ∙ ap (λ (p : Problem). p.starts) c.new-collected.ensures.builder in

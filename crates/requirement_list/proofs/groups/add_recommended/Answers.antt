@@ -23,4 +23,4 @@ returns-then-collected c =
     ∙ ap (λ (p : Problem). has p.starts c.args.source && not (list_any (meets_any indexes.installed.native items) indexes.installed.versions)) (sym c.problem-problem.ensures)
     ∙ sym c.is_broken.ensures ∙ c.if-is_broken.false in
     let P : List Requirement → Type 0 = λ rs. Adds rs old c.count_one.result c.count_one.new.self in
-    subst P (sym (unbroken_counts s r whole)) (c.count_one.ensures r)
+    subst P (sym (unbroken_counts s r whole)) (c.count_one.ensures.adds r)

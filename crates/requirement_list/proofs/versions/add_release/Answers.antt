@@ -4,8 +4,8 @@ use Rattle.requirement_list.proofs.Collecting.{come_none, come_step, come_last, 
 use Rattle.requirement_list.proofs.Releases.{needed, wished, opposed, from_conflicts, from_recommends, from_depends, of_stanza}
 use Rattle.requirement_list.proofs.versions.add_release.Goals as goal
 
-pub returns-in_err-add_groups : goal.returns-in_err-add_groups
-returns-in_err-add_groups c =
+pub returns-in_err-add_groups-clause-adds : goal.returns-in_err-add_groups-clause-adds
+returns-in_err-add_groups-clause-adds c =
     let index = c.args.indexes.now.all in
     let a = c.args.collected.now in
     let source = c.args.source in
@@ -16,8 +16,8 @@ returns-in_err-add_groups c =
     let e = err_from_is_err_and c.from_residual.result c.from_residual.ensures.1 in
     rw (e.1, e.2) (ended_step index a a all (from_depends source own st s) (needed source st.pre_depends.now) _ (come_none all a) c.in_err-add_groups.ensures)
 
-pub returns-in_err-add_groups-2 : goal.returns-in_err-add_groups-2
-returns-in_err-add_groups-2 c =
+pub returns-in_err-add_groups-2-clause-adds : goal.returns-in_err-add_groups-2-clause-adds
+returns-in_err-add_groups-2-clause-adds c =
     let index = c.args.indexes.now.all in
     let a = c.args.collected.now in
     let source = c.args.source in
@@ -29,8 +29,8 @@ returns-in_err-add_groups-2 c =
     let e = err_from_is_err_and c.from_residual-in_err-add_groups-2.result c.from_residual-in_err-add_groups-2.ensures.1 in
     rw (e.1, e.2) (ended_step index a c.add_groups.new.collected all (from_recommends source own st s) (needed source st.depends.now) _ come1 c.in_err-add_groups-2.ensures)
 
-pub returns-in_err-add_recommends : goal.returns-in_err-add_recommends
-returns-in_err-add_recommends c =
+pub returns-in_err-add_recommends-clause-adds : goal.returns-in_err-add_recommends-clause-adds
+returns-in_err-add_recommends-clause-adds c =
     let index = c.args.indexes.now.all in
     let a = c.args.collected.now in
     let source = c.args.source in
@@ -43,8 +43,8 @@ returns-in_err-add_recommends c =
     let e = err_from_is_err_and c.from_residual-in_err-add_recommends.result c.from_residual-in_err-add_recommends.ensures.1 in
     rw (e.1, e.2) (ended_step index a c.add_groups-2.new.collected all (from_conflicts source own st s) (wished source st.recommends.now) _ come2 c.in_err-add_recommends.ensures)
 
-pub returns-in_err-add_conflicts : goal.returns-in_err-add_conflicts
-returns-in_err-add_conflicts c =
+pub returns-in_err-add_conflicts-clause-adds : goal.returns-in_err-add_conflicts-clause-adds
+returns-in_err-add_conflicts-clause-adds c =
     let index = c.args.indexes.now.all in
     let a = c.args.collected.now in
     let source = c.args.source in
@@ -56,10 +56,10 @@ returns-in_err-add_conflicts c =
     let come2 = come_step index a c.add_groups.new.collected c.add_groups-2.new.collected all (from_recommends source own st s) (needed source st.depends.now) come1 c.in_ok-add_groups-2.ensures in
     let come3 = come_step index a c.add_groups-2.new.collected c.add_recommends.new.collected all (from_conflicts source own st s) (wished source st.recommends.now) come2 c.in_ok-add_recommends.ensures in
     let e = err_from_is_err_and c.from_residual-in_err-add_conflicts.result c.from_residual-in_err-add_conflicts.ensures.1 in
-    rw (e.1, e.2) (ended_step index a c.add_recommends.new.collected all (opposed source own st.breaks.now s) (opposed source own st.conflicts.now) _ come3 c.in_err-add_conflicts.ensures)
+    rw (e.1, e.2) (ended_step index a c.add_recommends.new.collected all (opposed source own st.breaks.now s) (opposed source own st.conflicts.now) _ come3 c.in_err-add_conflicts.ensures.adds)
 
-pub returns : goal.returns
-returns c =
+pub returns-clause-adds : goal.returns-clause-adds
+returns-clause-adds c =
     let index = c.args.indexes.now.all in
     let a = c.args.collected.now in
     let source = c.args.source in
@@ -70,6 +70,6 @@ returns c =
     let come1 = come_step index a a c.add_groups.new.collected all (from_depends source own st s) (needed source st.pre_depends.now) (come_none all a) c.in_ok-add_groups.ensures in
     let come2 = come_step index a c.add_groups.new.collected c.add_groups-2.new.collected all (from_recommends source own st s) (needed source st.depends.now) come1 c.in_ok-add_groups-2.ensures in
     let come3 = come_step index a c.add_groups-2.new.collected c.add_recommends.new.collected all (from_conflicts source own st s) (wished source st.recommends.now) come2 c.in_ok-add_recommends.ensures in
-    let come4 = come_step index a c.add_recommends.new.collected c.add_conflicts.new.collected all (opposed source own st.breaks.now s) (opposed source own st.conflicts.now) come3 c.in_ok-add_conflicts.ensures in
-    MatchResult-weaker c.add_conflicts-2.result c.add_conflicts-2.ensures (λ _ h. come_last index a c.add_conflicts.new.collected c.add_conflicts-2.new.collected all (opposed source own st.breaks.now) come4 h)
+    let come4 = come_step index a c.add_recommends.new.collected c.add_conflicts.new.collected all (opposed source own st.breaks.now s) (opposed source own st.conflicts.now) come3 c.in_ok-add_conflicts.ensures.adds in
+    MatchResult-weaker c.add_conflicts-2.result c.add_conflicts-2.ensures.adds (λ _ h. come_last index a c.add_conflicts.new.collected c.add_conflicts-2.new.collected all (opposed source own st.breaks.now) come4 h)
     (λ end h. ended_last index a c.add_conflicts.new.collected all (opposed source own st.breaks.now) end come4 h)

@@ -9,7 +9,8 @@ use Rattle.universe_parts.specs.Listed.{version_listed}
 use Rattle.universe_parts.specs.declared.listed.ListedVersion.{ListedVersion}
 use Rattle.requirement_list.specs.Settings.{setting_of}
 use Rattle.requirement_list.specs.Collecting.{HasCome}
-use Rattle.requirement_list.proofs.Collecting.{ended_step}
+use Rattle.requirement_list.proofs.Collecting.{come_step, ended_step}
+use Rattle.requirement_list.proofs.Rows.{rows_along}
 use Rattle.requirement_list.proofs.Wholes.{passes_at}
 use Rattle.requirement_list.proofs.versions.add_versions.Goals as goal
 
@@ -19,8 +20,8 @@ add_version-requires-clause-few c =
     let P : ListedVersion → Type 0 = λ v. are_groups_few (version_listed v) ≡ true in
     subst P (sym c.index-versions-number.is) (passes_at are_groups_few version_listed c.args.versions.now c.requires.groups c.loop-number.number v c.loop-number-test.true)
 
-pub returns-in_err-add_version : goal.returns-in_err-add_version
-returns-in_err-add_version c =
+pub returns-in_err-add_version-clause-adds : goal.returns-in_err-add_version-clause-adds
+returns-in_err-add_version-clause-adds c =
     let index = c.args.indexes.now.all in
     let a = c.args.collected.now in
     let s = setting_of index a in
@@ -28,6 +29,25 @@ returns-in_err-add_version c =
     let v = c.index-versions-number.result in
     let vs = c.args.versions.now in
     let P : List ListedVersion → Type 0 = λ left. HasCome (requirements s) (concat (map_from (of_version s) k (map version_listed left))) a c.loop-number.collected in
-    let come = subst P (drop_at vs k v c.loop-number-test.true c.index-versions-number.is) c.loop-number.invariant in
+    let come = subst P (drop_at vs k v c.loop-number-test.true c.index-versions-number.is) c.loop-number.invariant.come in
     let e = err_from_is_err_and c.from_residual.result c.from_residual.ensures.1 in
-    rw (e.1, e.2) (ended_step index a c.loop-number.collected (requirements s) (concat (map_from (of_version s) (k + 1) (map version_listed (drop (k + 1) vs)))) (λ (t : Setting). of_version t k (version_listed v)) _ come c.in_err-add_version.ensures)
+    rw (e.1, e.2) (ended_step index a c.loop-number.collected (requirements s) (concat (map_from (of_version s) (k + 1) (map version_listed (drop (k + 1) vs)))) (λ (t : Setting). of_version t k (version_listed v)) _ come c.in_err-add_version.ensures.adds)
+
+pub add_version-requires-clause-kept : goal.add_version-requires-clause-kept
+add_version-requires-clause-kept c =
+    rows_along c.args.indexes.now.all c.args.collected.now c.loop-number.collected c.loop-number.room.answers c.loop-number.invariant.come.starts c.loop-number.invariant.kept
+
+pub loop-number-preserved : goal.loop-number-preserved
+loop-number-preserved c =
+    let index = c.args.indexes.now.all in
+    let a = c.args.collected.now in
+    let s = setting_of index a in
+    let k = c.loop-number.number in
+    let v = c.index-versions-number.result in
+    let vs = c.args.versions.now in
+    let P : List ListedVersion → Type 0 = λ left. HasCome (requirements s) (concat (map_from (of_version s) k (map version_listed left))) a c.loop-number.collected in
+    let come = subst P (drop_at vs k v c.loop-number-test.true c.index-versions-number.is) c.loop-number.invariant.come in
+    record {
+      come = come_step index a c.loop-number.collected c.add_version.new.collected (requirements s) (concat (map_from (of_version s) (k + 1) (map version_listed (drop (k + 1) vs)))) (λ (t : Setting). of_version t k (version_listed v)) come c.in_ok-add_version.ensures.adds;
+      kept = rows_along index c.loop-number.collected a c.add_version.new.room.answers (sym c.loop-number.invariant.come.starts) c.in_ok-add_version.ensures.kept;
+    }

@@ -1,8 +1,8 @@
 use Rattle.std.proofs.Common.{◌≡◌, ℕ, true, false, sym, ◌∙◌, ap, arith, Vec, Global, ◌++◌, ◌∷◌, []}
 use Rattle.lists.specs.Sets.{has}
 use Rattle.requirement_list.proofs.Unmet.{unmet_none, unmet_yes, unmet_no, met_before, met_after}
-use Rattle.requirement_list.proofs.conflicts.list_unmet.Goals as goal
-use Rattle.requirement_list.proofs.conflicts.list_unmet.Goals.{then-is_met, else-is_met+in_ok-push}
+use Rattle.requirement_list.proofs.walk.list_unmet.Goals as goal
+use Rattle.requirement_list.proofs.walk.list_unmet.Goals.{then-is_met, else-is_met+in_ok-push}
 
 pub loop-version-init : goal.loop-version-init
 loop-version-init c = record { listed = c.clear.ensures.items ∙ sym (unmet_none c.args.met.now c.args.first); before = c.requires.before; after = c.requires.after }

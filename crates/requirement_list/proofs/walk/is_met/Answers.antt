@@ -1,5 +1,5 @@
 use Rattle.requirement_list.proofs.Unmet.{has_here, has_none_left}
-use Rattle.requirement_list.proofs.conflicts.is_met.Goals as goal
+use Rattle.requirement_list.proofs.walk.is_met.Goals as goal
 
 pub returns-then-place-met-clause-met : goal.returns-then-place-met-clause-met
 returns-then-place-met-clause-met c = has_here c.args.met.now c.requires.rising c.args.place c.args.version c.requires.before c.requires.after c.if-place-met.true

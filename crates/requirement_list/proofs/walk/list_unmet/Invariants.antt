@@ -1,6 +1,6 @@
 use Rattle.std.proofs.Common.{◌≡◌, ◌<◌, ◌≤◌, ℕ, length, get_or}
 use Rattle.requirement_list.specs.Conflicts.{unmet}
-use Rattle.requirement_list.proofs.conflicts.list_unmet.Given as goal
+use Rattle.requirement_list.proofs.walk.list_unmet.Given as goal
 
 abbrev pub invariant-loop-version : goal.invariant-loop-version
 invariant-loop-version l = record {

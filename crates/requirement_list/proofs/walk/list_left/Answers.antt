@@ -2,7 +2,7 @@ use Rattle.std.proofs.Common.{arith, ◌≤◌}
 use Rattle.problem.specs.Places.{absent_of, end_of}
 use Rattle.problem.proofs.Ranges.{absent-le-end}
 use Rattle.requirement_list.proofs.Unmet.{are_left}
-use Rattle.requirement_list.proofs.conflicts.list_left.Goals as goal
+use Rattle.requirement_list.proofs.walk.list_left.Goals as goal
 
 pub list_unmet-requires-clause-order : goal.list_unmet-requires-clause-order
 list_unmet-requires-clause-order c =
