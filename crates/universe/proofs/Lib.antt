@@ -3,6 +3,8 @@ mod Kept
 mod Walks
 mod Owned
 mod Halves
+mod Ordered
+mod ListedAt
 mod Built
 mod Making
 mod Whole

@@ -3,7 +3,7 @@ use Rattle.std.proofs.Common.{◌≡◌, ◌⊎◌, inl, inr, ℕ, Bool, List, [
 use Rattle.std.proofs.lemmas.List.{length-map}
 use Rattle.std.specs.Option.{option_or}
 use Rattle.lists.specs.Below.{below}
-use Rattle.laws_universe.specs.Standing.{StaysBefore}
+use Rattle.laws_universe.specs.Standing.{StandApart, StaysBefore}
 use Rattle.problem.specs.Places.{IsOneOfEach}
 use Rattle.resolver_model.specs.Problems.{Problem, package_count, dependency_count}
 use Rattle.requirement_list.specs.RequirementLists.{requirement_refusal}
@@ -71,6 +71,10 @@ module _ (native : List ℕ) (stanzas : Stanzas) (lv : List Version) (b : Proble
   pub requirements-ordered : (lp : Problem) (gs : List ℕ) (xs : List Bool) → lp ≡ with_rows b (rows native lv b.starts) → gs ≡ map group_in (rows native lv b.starts)
       → xs ≡ map conflict_in (rows native lv b.starts) → AllPairs StaysBefore (universe_of native stanzas).requirements → AllPairs StaysBefore (requirements_of lp.dependencies gs xs)
   requirements-ordered lp gs xs p g x ordered = subst (AllPairs StaysBefore) (sym (requirements-same lp gs xs p g x)) ordered
+
+  -- no two of the versions that are kept are equal
+  pub versions-apart : (ks : List Known) → ks ≡ map known lv → AllPairs StandApart (universe_of native stanzas).versions → AllPairs StandApart ks
+  versions-apart ks k apart = subst (AllPairs StandApart) (sym (k ∙ ap (map known) listed)) apart
 
   pub universe-same : (ns : List (List ℕ)) (cs : List ℕ) (hs : List Bool) (ks : List Known) (lp : Problem) (gs : List ℕ) (xs : List Bool)
       → ns ≡ names stanzas → cs ≡ map (candidate_of (versions stanzas)) (below (length (names stanzas))) → hs ≡ map (is_held stanzas.status) (names stanzas)

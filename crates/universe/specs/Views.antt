@@ -3,11 +3,12 @@ use Rattle.std.specs.Prelude.{◌≡◌, ℕ, Bool, true, List, [], ◌∷◌, m
 use Rattle.std.specs.List.{AllPairs, list_all}
 use Rattle.std.specs.Global.{Vec}
 use Rattle.deb_version.specs.Versions.{is_version}
-use Rattle.laws_universe.specs.Standing.{StaysBefore}
+use Rattle.laws_universe.specs.Standing.{StandApart, StaysBefore}
 use Rattle.problem.specs.Places.{IsOneOfEach}
 use Rattle.resolver_model.specs.Problems.{Dependency, package_count, dependency_count}
 use Rattle.universe_model.specs.Dependencies.{Requirement}
 use Rattle.universe_model.specs.Universes as model
+use Rattle.universe.specs.Order.{AreInOrder}
 use Rattle.universe.specs.declared.known.KnownVersion.{KnownVersion}
 use Rattle.universe.specs.declared.Universe.TheInside.{Inside}
 
@@ -54,5 +55,7 @@ pub record IsKept (u : Inside) : Type 0 where
   pub owners : u.problem.owners ≡ map model.owner_of (map known_version u.versions.items)
   pub groups : length u.groups.items ≡ dependency_count u.problem
   pub conflicts : length u.conflicts.items ≡ dependency_count u.problem
-  pub order : AllPairs StaysBefore (requirements_of u.problem.dependencies u.groups.items u.conflicts.items)
+  pub dependencies : AllPairs StaysBefore (requirements_of u.problem.dependencies u.groups.items u.conflicts.items)
+  pub apart : AllPairs StandApart (map known_version u.versions.items)
+  pub order : AreInOrder (map known_version u.versions.items) u.order.items
   pub texts : IsTrue (list_all is_sound (map known_version u.versions.items))

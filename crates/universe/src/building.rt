@@ -11,7 +11,10 @@ ghost use Rattle.universe.specs.Building.{IsOfStanzas, IsEndOf};
 
 use crate::Universe;
 use crate::known::known_versions;
-use laws_universe::{candidates_are_versions, dependencies_stand_in_order, groups_are_few};
+use crate::order::versions_in_order;
+use laws_universe::{
+    candidates_are_versions, dependencies_stand_in_order, groups_are_few, versions_stand_apart,
+};
 use requirement_list::list_requirements;
 use stanza_list::{package_stanzas, status_stanzas};
 use std::alloc::Global;
@@ -32,6 +35,7 @@ impl Universe {
     {
         candidates_are_versions();
         dependencies_stand_in_order();
+        versions_stand_apart();
         let Listing {
             names,
             versions,
@@ -42,11 +46,13 @@ impl Universe {
         let versions = versions.as_slice();
         let list = list_requirements(alloc, native, versions, builder)?;
         let known = known_versions(alloc, versions)?;
+        let order = versions_in_order(alloc, versions)?;
         let native = Vec::from_slice(alloc, native)?;
         Ok(Universe {
             native,
             names,
             versions: known,
+            order,
             candidates,
             held,
             problem: list.problem,

@@ -2,12 +2,15 @@
 
 ghost use Rattle.std.specs.Prelude.{◌≡◌, ◌<◌, ◌++◌, ◌∷◌, [], ℕ, Ok, Err, None, Some, true, false, IfSome, OnOk, OnErr, length, option_map, cond, ◌&&◌};
 ghost use Rattle.std.specs.List.{position};
-ghost use Rattle.std.specs.List.Sorted.{IsPartitionPoint, IsPartitionedBy};
+ghost use Rattle.std.specs.List.Sorted.{IsBinarySearchResult, IsSearchInRange, IsPartitionPoint, IsPartitionedBy};
+ghost use Rattle.std.specs.Option.{option_cmp};
 ghost use Rattle.deb_version.specs.Versions.{parts};
-ghost use Rattle.laws_universe.specs.Standing.{is_before};
+ghost use Rattle.deb_version.specs.VersionOrder.{version_order};
+ghost use Rattle.laws_universe.specs.Standing.{is_before, known_order, known_parts};
 ghost use Rattle.resolver_model.specs.Problems.{is_install, leave_of};
-ghost use Rattle.universe_model.specs.Universes.{IsProblemOf, version_in, version_numbered, requirement_numbered, is_text_of, name_of_package};
+ghost use Rattle.universe_model.specs.Universes.{IsProblemOf, version_in, version_numbered, requirement_numbered, name_of_package};
 ghost use Rattle.universe_model.specs.Tokens.{choice_of, choice_named, token, token_by_kind, install_token, version_named, is_recommends_of};
+ghost use Rattle.universe.specs.Order.{sought};
 ghost use Rattle.universe.specs.Said.{token_said, IsKept};
 
 use crate::Universe;
@@ -16,6 +19,7 @@ use ascii::append_number;
 use choice_set::NoMemory;
 use deb_version::{Version, compare};
 use problem::{Kind, Problem};
+use std::cmp::Ordering;
 use universe_model::TokenFault;
 
 // Whether all three hold.
@@ -26,19 +30,46 @@ fn is_all(a: bool, b: bool, c: bool) -> bool
 }
 
 impl Universe {
-    // Whether the text of a version is equal to another in the order of versions. What is absent has none.
-    fn is_text_of(&self, number: u32, version: &Version<'_>) -> bool
+    // How the version with a number and one of a package stand. A number past the end is that of nothing, which stands before all.
+    fn order_to(&self, number: u32, package: u32, version: &Version<'_>) -> Ordering
+        ensures { result ≡ known_order (version_numbered self.now number) (sought «package» version.now.text.now) }
+    {
+        let Some(known) = self.versions.get(number as usize) else {
+            return Ordering::Less;
+        };
+        let packages = known.package.cmp(&package);
+        if packages.is_ne() {
+            return packages;
+        }
+        self.text_order(number, version)
+    }
+
+    // How the text of a version and another version stand in the order of versions. What is absent stands before all others.
+    fn text_order(&self, number: u32, version: &Version<'_>) -> Ordering
         requires { number < length self.now.versions }
-        ensures { result ≡ is_text_of (parts version.now.text.now) (version_numbered self.now number).text }
+        ensures { result ≡ option_cmp version_order (known_parts (version_numbered self.now number)) (Some (parts version.now.text.now)) }
     {
         let _ = &self.versions;
         match self.version_text(number) {
-            None => false,
+            None => Ordering::Less,
             Some(text) => match Version::read(text) {
-                Ok(own) => compare(&own, version).is_eq(),
-                Err(_) => false,
+                Ok(own) => compare(&own, version),
+                Err(_) => Ordering::Less,
             },
         }
+    }
+
+    // Where a version of a package stands in the order of all.
+    fn place_among(
+        &self,
+        order: &[u32],
+        package: u32,
+        version: &Version<'_>,
+    ) -> Result<usize, usize>
+        ensures bound { IsSearchInRange result (length order.now) }
+        ensures position { IsBinarySearchResult (λ number. known_order (version_numbered self.now number) (sought «package» version.now.text.now)) order.now result }
+    {
+        order.binary_search_by(|number| self.order_to(*number, package, version))
     }
 
     /// The version of a package that is equal to another in the order of versions (Debian Policy 5.6.12); `None` exactly where
@@ -49,13 +80,11 @@ impl Universe {
         ensures range { IfSome result (λ v. v < length self.now.versions) }
         ensures own { IfSome result (λ v. (version_numbered self.now v).package_number ≡ «package») }
     {
-        let _ = self.problem.versions();
-        for number in self.problem.absent_of(package)..self.problem.end_of(package) {
-            if self.is_text_of(number, version) {
-                return Some(number);
-            }
+        let order = self.order.as_slice();
+        match self.place_among(order, package, version) {
+            Ok(place) => Some(order[place]),
+            Err(_) => None,
         }
-        None
     }
 
     // The version of a package that a token names.

@@ -11,6 +11,7 @@ mod building;
 mod finding;
 mod known;
 mod numbering;
+mod order;
 mod tokens;
 
 pub use choice_set::NoMemory;
@@ -27,6 +28,8 @@ pub struct Universe {
     native: Vec<u8>,
     names: Names,
     versions: Vec<KnownVersion>,
+    // the numbers of all versions, by package, and of one package in the order of versions
+    order: Vec<u32>,
     candidates: Vec<u32>,
     held: Vec<bool>,
     problem: Problem,

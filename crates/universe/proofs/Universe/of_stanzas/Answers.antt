@@ -1,12 +1,13 @@
-use Rattle.std.proofs.Common.{◌∙◌, sym, ap, map, length}
+use Rattle.std.proofs.Common.{◌∙◌, sym, ap, map, length, subst}
 use Rattle.std.proofs.lemmas.List.{length-map}
 use Rattle.std.proofs.lemmas.Result.{err_from_is_err_and}
 use Rattle.universe_model.specs.Versions as model
 use Rattle.universe_model.specs.declared.BuildEnd.TheVariants as build_end
 use Rattle.universe_parts.specs.Listed.{version_listed}
 use Rattle.version_list.specs.Listings.{stanzas_read}
+use Rattle.universe.specs.Order.{AreInOrder}
 use Rattle.universe.specs.Views.{known_version, requirements_of}
-use Rattle.universe.proofs.Making.{universe-same, requirements-ordered, candidates-own, owners-same, count-of-packages, count-of-dependencies, first-end, last-end, no-end}
+use Rattle.universe.proofs.Making.{universe-same, requirements-ordered, versions-apart, candidates-own, owners-same, count-of-packages, count-of-dependencies, first-end, last-end, no-end}
 use Rattle.universe.proofs.Zips.{group_in, conflict_in}
 use Rattle.universe.proofs.Universe.of_stanzas.Goals as goal
 
@@ -41,10 +42,14 @@ invariant_of-result c = record {
   conflicts = count-of-dependencies c.args.native.now (stanzas_read c.args.status.now c.args.packages.now) (map version_listed c.as_slice-versions.result.now) c.in_ok-names.field-0.builder
       (ap (map version_listed) c.as_slice-versions.ensures.value ∙ c.in_ok-names.ensures.versions) c.in_ok-names.ensures.problem c.in_ok-list.list.problem conflict_in c.in_ok-list.list.conflicts.items
       c.in_ok-list.ensures.problem c.in_ok-list.ensures.conflicts;
-  order = requirements-ordered c.args.native.now (stanzas_read c.args.status.now c.args.packages.now) (map version_listed c.as_slice-versions.result.now) c.in_ok-names.field-0.builder
+  dependencies = requirements-ordered c.args.native.now (stanzas_read c.args.status.now c.args.packages.now) (map version_listed c.as_slice-versions.result.now) c.in_ok-names.field-0.builder
       (ap (map version_listed) c.as_slice-versions.ensures.value ∙ c.in_ok-names.ensures.versions) c.in_ok-names.ensures.problem c.in_ok-list.list.problem c.in_ok-list.list.groups.items c.in_ok-list.list.conflicts.items
       c.in_ok-list.ensures.problem c.in_ok-list.ensures.groups c.in_ok-list.ensures.conflicts
       (c.dependencies_stand_in_order.ensures (stanzas_read c.args.status.now c.args.packages.now) c.args.native.now);
+  apart = versions-apart c.args.native.now (stanzas_read c.args.status.now c.args.packages.now) (map version_listed c.as_slice-versions.result.now) c.in_ok-names.field-0.builder
+      (ap (map version_listed) c.as_slice-versions.ensures.value ∙ c.in_ok-names.ensures.versions) c.in_ok-names.ensures.problem
+      (map known_version c.in_ok-known.known.items) c.in_ok-known.ensures.known (c.versions_stand_apart.ensures (stanzas_read c.args.status.now c.args.packages.now) c.args.native.now);
+  order = subst (λ vs. AreInOrder vs c.in_ok-order.order.items) (sym c.in_ok-known.ensures.known) c.in_ok-order.ensures;
   texts = c.in_ok-known.ensures.sound;
 }
 

@@ -13,7 +13,7 @@ use Rattle.universe.proofs.Kept.{count-same, dependency-same}
 use Rattle.universe.proofs.Universe.recommends_of.Goals as goal
 
 ordered : (u : Inside) (now : Universe) → universe_kept u ≡ now → IsKept u → AllPairs StaysBefore now.requirements
-ordered u now is kept = subst (λ (seen : Universe). AllPairs StaysBefore seen.requirements) is kept.order
+ordered u now is kept = subst (λ (seen : Universe). AllPairs StaysBefore seen.requirements) is kept.dependencies
 
 is_mine : (u : Inside) (now : Universe) → universe_kept u ≡ now → IsKept u → (v k : ℕ) → ((dependency u.problem k).source == v) ≡ ((requirement_numbered now k).dependency.source == v)
 is_mine u now is kept v k = ap (λ (d : Dependency). d.source == v) (sym (dependency-same u now is kept k))

@@ -1,35 +1,33 @@
-use Rattle.std.proofs.Common.{◌∙◌, ap, sym, map, arith}
-use Rattle.deb_version.specs.Versions.{parts}
-use Rattle.universe_model.specs.Universes.{Universe, owner_of}
-use Rattle.universe.proofs.Walks.{version-found, version-missing, version-own, absent-same, count-same}
+use Rattle.std.proofs.Common.{◌≡◌, ℕ, List, sym, subst, AllPairs}
+use Rattle.laws_universe.specs.Standing.{StandApart}
+use Rattle.universe_model.specs.Universes.{Universe}
+use Rattle.universe.specs.Order.{AreInOrder}
+use Rattle.universe.specs.Views.{IsKept, universe_kept}
+use Rattle.universe.specs.declared.Universe.TheInside.{Inside}
+use Rattle.universe.proofs.Ordered.{version-found, version-missing, order-parted, found-within, found-own}
 use Rattle.universe.proofs.Universe.version.Goals as goal
 
-pub returns-then-is_text_of-clause-version : goal.returns-then-is_text_of-clause-version
-returns-then-is_text_of-clause-version c =
-    let owners = c.self.invariant.owners ∙ ap (λ (u : Universe). map owner_of u.versions) c.self.view_is in
-    sym (version-found c.args.self.now c.self.inside.problem owners c.versions.ensures.formed c.args.«package» c.loop-number.number (parts c.args.version.now.text.now)
-    (omega (arith, c.loop-number-test.true, c.end_of-number-end.ensures.range))
-    (omega (arith, c.loop-number.auto.number, c.absent_of-number.ensures.absent))
-    (omega (arith, c.loop-number-test.true, c.end_of-number-end.ensures.end))
-    (λ k low less. c.loop-number.invariant k (omega (arith, absent-same c.args.self.now c.self.inside.problem owners c.versions.ensures.formed c.args.«package», low)) less)
-    (sym c.if-is_text_of.ensures))
+apart : (u : Inside) (now : Universe) → universe_kept u ≡ now → IsKept u → AllPairs StandApart now.versions
+apart u now is kept = subst (λ (seen : Universe). AllPairs StandApart seen.versions) is kept.apart
 
-pub returns-then-is_text_of-clause-range : goal.returns-then-is_text_of-clause-range
-returns-then-is_text_of-clause-range c =
-    let owners = c.self.invariant.owners ∙ ap (λ (u : Universe). map owner_of u.versions) c.self.view_is in
-    omega (arith, c.loop-number-test.true, c.end_of-number-end.ensures.range, count-same c.args.self.now c.self.inside.problem owners c.versions.ensures.formed)
+order : (u : Inside) (now : Universe) (list : List ℕ) → universe_kept u ≡ now → IsKept u → list ≡ u.order.items → AreInOrder now.versions list
+order u now list is kept same = subst (AreInOrder now.versions) (sym same) (subst (λ (seen : Universe). AreInOrder seen.versions u.order.items) is kept.order)
 
-pub returns-then-is_text_of-clause-own : goal.returns-then-is_text_of-clause-own
-returns-then-is_text_of-clause-own c =
-    let owners = c.self.invariant.owners ∙ ap (λ (u : Universe). map owner_of u.versions) c.self.view_is in
-    version-own c.args.self.now c.self.inside.problem owners c.versions.ensures.formed c.args.«package» c.loop-number.number
-    (omega (arith, c.loop-number-test.true, c.end_of-number-end.ensures.range))
-    (omega (arith, c.loop-number.auto.number, c.absent_of-number.ensures.absent))
-    (omega (arith, c.loop-number-test.true, c.end_of-number-end.ensures.end))
+pub bounds-order-place : goal.bounds-order-place
+bounds-order-place c = c.in-Ok.ensures.bound
 
-pub returns-clause-version : goal.returns-clause-version
-returns-clause-version c =
-    let owners = c.self.invariant.owners ∙ ap (λ (u : Universe). map owner_of u.versions) c.self.view_is in
-    sym (version-missing c.args.self.now c.self.inside.problem owners c.versions.ensures.formed c.args.«package» (parts c.args.version.now.text.now)
-    (λ k low less. c.loop-number.invariant k (omega (arith, absent-same c.args.self.now c.self.inside.problem owners c.versions.ensures.formed c.args.«package», low))
-    (omega (arith, c.loop-number-test.false, c.end_of-number-end.ensures.end, less))))
+pub returns-in-Ok-clause-version : goal.returns-in-Ok-clause-version
+returns-in-Ok-clause-version c =
+    sym (version-found c.args.self.now c.args.«package» c.args.version.now.text.now (apart c.self.inside c.args.self.now c.self.view_is c.self.invariant) _ (c.in-Ok.ensures.position 0))
+
+pub returns-in-Ok-clause-range : goal.returns-in-Ok-clause-range
+returns-in-Ok-clause-range c = found-within c.args.self.now c.args.«package» c.args.version.now.text.now _ (c.in-Ok.ensures.position 0)
+
+pub returns-in-Ok-clause-own : goal.returns-in-Ok-clause-own
+returns-in-Ok-clause-own c = found-own c.args.self.now c.args.«package» c.args.version.now.text.now _ (c.in-Ok.ensures.position 0)
+
+pub returns-in-Err-clause-version : goal.returns-in-Err-clause-version
+returns-in-Err-clause-version c =
+    let all = order c.self.inside c.args.self.now c.as_slice-order.result.now c.self.view_is c.self.invariant c.as_slice-order.ensures.value in
+    sym (version-missing c.args.self.now c.args.«package» c.args.version.now.text.now c.as_slice-order.result.now all c.in-Err.field-0
+    (c.in-Err.ensures.position (order-parted c.args.self.now c.args.«package» c.args.version.now.text.now c.as_slice-order.result.now all)))
