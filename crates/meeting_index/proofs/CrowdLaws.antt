@@ -1,5 +1,5 @@
 -- What stands in a list of carriers, and crowds at their names.
-use Rattle.std.proofs.Common.{◌≡◌, ℕ, ◌∙◌, sym, ap, refl, List, [], ◌∷◌, map, Bool, true, false, cond, ◌&&◌, ◌||◌, nat_eq, nat_lt, Option, Some, None, is_some, length, ◌⊎◌, inl, inr}
+use Rattle.std.proofs.Common.{◌≡◌, ℕ, ◌∙◌, sym, ap, refl, subst, List, [], ◌∷◌, map, Bool, true, false, cond, ◌&&◌, ◌||◌, nat_eq, nat_lt, Option, Some, None, is_some, length, ◌⊎◌, inl, inr}
 use Rattle.std.specs.List.{dedup, dedup_from, filter, list_any}
 use Rattle.std.specs.List.Sorted.{IsPermutation}
 use Rattle.std.specs.Map.{lookup}
@@ -13,6 +13,7 @@ use Rattle.std.proofs.lemmas.List.Sorted.{list_any-IsPermutation}
 use Rattle.lists.specs.Sets.{has}
 use Rattle.lists.proofs.Orders.{then_equal}
 use Rattle.lists.proofs.Tests.{list_any-map}
+use Rattle.ascii.specs.Texts.{is_same}
 use Rattle.deb_version.specs.VersionOrder.{version_order}
 use Rattle.deb_version.proofs.Keys.{version_order-preorder}
 use Rattle.deb_version.specs.Versions.{Parts, epoch_of, upstream_of}
@@ -21,7 +22,7 @@ use Rattle.dep_fields.specs.Operators.{holds}
 use Rattle.dep_fields.specs.Relationships.{VersionBound, parts_of}
 use Rattle.universe_model.proofs.Orders.{order-total}
 use Rattle.meeting_index.specs.Carriers.{Carrier}
-use Rattle.meeting_index.specs.Crowds.{AreRight, HasCrowd, IsCrowdOf, crowds_have, finds_as, is_crowd, kept_has}
+use Rattle.meeting_index.specs.Crowds.{AreRight, HasCrowd, IsCrowdOf, IsRealCrowd, crowds_have, finds_as, is_crowd, kept_has}
 use Rattle.meeting_index.specs.Fitting.{carried_number, carried_order, carried_parts, fits, fits_as, has_fitting, is_past, version_parts}
 use Rattle.meeting_index.specs.Named.{has_bytes, has_same, named_number, numbers_in}
 use Rattle.meeting_index.specs.Tables.{numbers_at}
@@ -142,14 +143,23 @@ parts-read v =
 -- ---- the crowds of names
 
 module _ (carriers : List Carrier) (named : NamedNumbers) where
+  some-same : (o : Option Crowd) (crowd other : Crowd) → o ≡ Some crowd → o ≡ Some other → crowd ≡ other
+  some-same o crowd other e f = cc
+
   -- a name has the crowd that was put there
   pub crowd-put : (old new : Crowds) (name : Name) (crowd : Crowd)
       → ((other : Name) → lookup (has_same other) new.by_name.entries ≡ cond (has_same name other) (Some crowd) (lookup (has_same other) old.by_name.entries))
       → IsCrowdOf carriers (numbers_at named name.bytes.now) crowd → (other : Name) → has_same name other ≡ true → HasCrowd carriers named new other
-  crowd-put old new name crowd put is other same = λ bound c.
-      ap (λ o. kept_has o bound c) (put other ∙ ap (λ b. cond b (Some crowd) (lookup (has_same other) old.by_name.entries)) same)
-      ∙ is bound c
-      ∙ ap (λ bytes. list_any (finds_as carriers bound c) (numbers_at named bytes)) (same-bytes name.bytes.now other.bytes.now same)
+  crowd-put old new name crowd put is other same =
+      let there : lookup (has_same other) new.by_name.entries ≡ Some crowd = put other ∙ ap (λ b. cond b (Some crowd) (lookup (has_same other) old.by_name.entries)) same in
+      let bytes = same-bytes name.bytes.now other.bytes.now same in
+      record {
+        finds = λ bound c.
+            ap (λ o. kept_has o bound c) there ∙ is.finds bound c ∙ ap (λ bs. list_any (finds_as carriers bound c) (numbers_at named bs)) bytes;
+        real = λ found e.
+            subst (λ (k : Crowd). IsRealCrowd carriers (numbers_at named other.bytes.now) k) (some-same (lookup (has_same other) new.by_name.entries) crowd found there e)
+            (subst (λ (bs : List ℕ). IsRealCrowd carriers (numbers_at named bs) crowd) bytes is.real);
+      }
 
   -- and other names have what they had
   crowd-stays : (old new : Crowds) (name : Name) (crowd : Crowd)
@@ -162,8 +172,12 @@ module _ (carriers : List Carrier) (named : NamedNumbers) where
       → IsCrowdOf carriers (numbers_at named name.bytes.now) crowd → (other : Name) (b : Bool) → has_same name other ≡ b
       → HasCrowd carriers named old other → HasCrowd carriers named new other
   stay-cases old new name crowd put is other true same has = crowd-put old new name crowd put is other same
-  stay-cases old new name crowd put is other false same has = λ bound c.
-      ap (λ o. kept_has o bound c) (crowd-stays old new name crowd put other same) ∙ has bound c
+  stay-cases old new name crowd put is other false same has =
+      let stays = crowd-stays old new name crowd put other same in
+      record {
+        finds = λ bound c. ap (λ o. kept_has o bound c) stays ∙ has.finds bound c;
+        real = λ found e. has.real found (sym stays ∙ e);
+      }
 
   pub crowd-stay : (old new : Crowds) (name : Name) (crowd : Crowd)
       → ((other : Name) → lookup (has_same other) new.by_name.entries ≡ cond (has_same name other) (Some crowd) (lookup (has_same other) old.by_name.entries))
@@ -189,14 +203,21 @@ module _ (carriers : List Carrier) (named : NamedNumbers) where
   there-cases crowds name found some is (inl none) = absurd (let both : false ≡ true = ap is_some (sym (is ∙ none)) ∙ some in cc)
   there-cases crowds name found some is (inr has) = has
 
+  -- names with the same bytes have the same crowd
+  crowd-same : (crowds : Crowds) (name other : Name) → name.bytes.now ≡ other.bytes.now → HasCrowd carriers named crowds name → HasCrowd carriers named crowds other
+  crowd-same crowds name other bytes has = record {
+    finds = λ bound c.
+        ap (λ b. crowds_have crowds b bound c) (sym bytes) ∙ has.finds bound c ∙ ap (λ b. list_any (finds_as carriers bound c) (numbers_at named b)) bytes;
+    real = λ found e.
+        subst (λ (bs : List ℕ). IsRealCrowd carriers (numbers_at named bs) found) bytes
+        (has.real found (ap (λ bs. lookup (λ (k : Name). is_same bs k.bytes.now) crowds.by_name.entries) bytes ∙ e));
+  }
+
   -- a crowd that is there already
   pub crowd-there : (crowds : Crowds) (name other : Name) (found : Option Crowd) → is_some found ≡ true → found ≡ lookup (has_same name) crowds.by_name.entries
       → AreRight carriers named crowds → has_same name other ≡ true → HasCrowd carriers named crowds other
-  crowd-there crowds name other found some is right same = λ bound c.
-      let bytes = same-bytes name.bytes.now other.bytes.now same in
-      ap (λ b. crowds_have crowds b bound c) (sym bytes)
-      ∙ there-cases crowds name found some is (right name) bound c
-      ∙ ap (λ b. list_any (finds_as carriers bound c) (numbers_at named b)) bytes
+  crowd-there crowds name other found some is right same =
+      crowd-same crowds name other (same-bytes name.bytes.now other.bytes.now same) (there-cases crowds name found some is (right name))
 
 -- a name that is crowded stands in the table
 filter-some : {X : Type 0} (test : X → Bool) (xs : List X) → nat_lt 16 (length (filter test xs)) ≡ true → list_any test xs ≡ true

@@ -1,6 +1,8 @@
+pub mod AnswerKeys
 pub mod CarrierLists
 pub mod CrowdLaws
 pub mod CrowdRanges
+pub mod Edges
 pub mod Finding
 pub mod NamedRuns
 pub mod Numbers

@@ -26,6 +26,9 @@ carried_parts y = version_parts y.version
 abbrev pub carried_number : Carried → ℕ
 carried_number y = y.number
 
+abbrev pub carried_carrier : Carried → ℕ
+carried_carrier y = y.carrier
+
 abbrev pub carried_order : Carried → Carried → Ordering
 carried_order = then_cmp (on carried_parts version_order) (on carried_number nat_cmp)
 

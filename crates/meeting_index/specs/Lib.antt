@@ -7,10 +7,12 @@ pub mod Given
 pub mod Hashes
 pub mod IndexFields
 pub mod Indexes
+pub mod Keys
 pub mod Members
 pub mod Named
 pub mod NamedLaws
 pub mod Numbers
 pub mod Provided
+pub mod Spans
 pub mod Starts
 pub mod Tables

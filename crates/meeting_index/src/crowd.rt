@@ -1,15 +1,18 @@
 // The carriers of one name, where they are many.
 
-ghost use Rattle.std.specs.Prelude.{◌≡◌, ◌++◌, ◌||◌, ℕ, map, IfOk, OnOk, Option};
+ghost use Rattle.std.specs.Prelude.{◌≡◌, ◌++◌, ◌-◌, ◌||◌, ℕ, false, length, map, IfOk, MatchOption, OnOk, Option};
 ghost use Rattle.std.specs.Option.{option_map};
+ghost use Rattle.std.specs.List.{Contains, slice_get};
 ghost use Rattle.std.specs.List.Sorted.{IsSorted};
 ghost use Rattle.dep_fields.specs.Relationships.{bound_of};
 ghost use Rattle.lists.specs.Sets.{has};
 ghost use Rattle.meeting_index.specs.Finding.{Finds};
-ghost use Rattle.meeting_index.specs.Fitting.{IsSide, carried_number, carried_order, either, has_fitting};
+ghost use Rattle.meeting_index.specs.Fitting.{IsSide, carried_carrier, carried_number, carried_order, either, has_fitting};
 ghost use Rattle.meeting_index.specs.declared.sides.Side.TheVariants as side;
+ghost use Rattle.meeting_index.specs.Spans.{span_of};
 
 use crate::carried::Carried;
+use crate::keys::{Span, span_of};
 use crate::ranges::within;
 use crate::sides::{Side, side_of};
 use choice_set::NoMemory;
@@ -34,7 +37,7 @@ pub struct Crowd<'a> {
 impl<'a> Crowd<'a> {
     ghost use Rattle.dep_fields.specs.Relationships.{VersionBound};
     ghost use Rattle.std.specs.Prelude.{Some, None};
-    ghost use Rattle.meeting_index.specs.Crowds.{crowd_has};
+    ghost use Rattle.meeting_index.specs.Crowds.{IsEdge, IsInside, Keeps, crowd_has};
 
     /// A crowd of the versions that all carriers stand for, and of the carriers that have a version, in order.
     pub fn new(
@@ -44,6 +47,7 @@ impl<'a> Crowd<'a> {
     ) -> Result<Crowd<'a>, NoMemory>
         requires { IsSorted carried_order by_version.items }
         ensures all { IfOk result (λ crowd. (c : ℕ) → crowd_has crowd None c ≡ has all.items c) }
+        ensures kept { IfOk result (λ crowd. (y : Carried) → Keeps crowd y → Contains by_version.entry.items y) }
         ensures within { IfOk result (λ crowd. (bound : VersionBound) (c : ℕ) → crowd_has crowd (Some bound) c ≡ has_fitting by_version.entry.items bound c) }
     {
         let mut by_number = Vec::from_slice(alloc, by_version.as_slice())?;
@@ -83,24 +87,37 @@ impl<'a> Crowd<'a> {
         }
     }
 
-    // Carriers within a bound that stand for all numbers with such a carrier.
-    fn members(&self, op: Op, version: &Version<'_>) -> &[Carried<'a>]
-        ensures { (c : ℕ) → has (map carried_number result.now) c ≡ crowd_has self.now (Some (bound_of (op, version.now))) c }
+    /// The carrier at the edge of those that are within a bound, if there is any: what it meets to the same side, all within the
+    /// bound meet.
+    pub fn edge(&self, op: Op, version: &Version<'_>) -> Option<u32>
+        ensures { MatchOption result ((c : ℕ) → crowd_has self.now (Some (bound_of (op, version.now))) c ≡ false) (IsEdge self.now (bound_of (op, version.now))) }
     {
-        within(self.looked_at(op), op, version)
+        let list = self.members(op, version);
+        match span_of(op) {
+            Span::Earlier => last_carrier(list),
+            _ => first_carrier(list),
+        }
     }
 
-    // The carriers that tell whether the bounds of an operator are met.
-    fn looked_at(&self, op: Op) -> &[Carried<'a>]
+    // Carriers within a bound that stand for all numbers with such a carrier, in order.
+    fn members(&self, op: Op, version: &Version<'_>) -> &[Carried<'a>]
+        ensures numbers { (c : ℕ) → has (map carried_number result.now) c ≡ crowd_has self.now (Some (bound_of (op, version.now))) c }
         ensures sorted { IsSorted carried_order result.now }
-        ensures serves { (bound : VersionBound) → bound.op ≡ op → (c : ℕ) → has_fitting result.now bound c ≡ has_fitting self.now.by_version.items bound c }
+        ensures inside { (y : Carried) → Contains result.now y → IsInside self.now (bound_of (op, version.now)) y }
     {
-        match op {
-            Op::Less | Op::AtMost => one_or_all(self.least.as_slice(), self.by_version.as_slice()),
-            Op::Equal => self.by_version.as_slice(),
-            Op::AtLeast | Op::More => {
-                one_or_all(self.greatest.as_slice(), self.by_version.as_slice())
-            }
+        within(self.looked_at(span_of(op)), op, version)
+    }
+
+    // The carriers that tell whether the bounds to a side are met.
+    fn looked_at(&self, span: Span) -> &[Carried<'a>]
+        ensures sorted { IsSorted carried_order result.now }
+        ensures part { (y : Carried) → Contains result.now y → Keeps self.now y }
+        ensures serves { (bound : VersionBound) → span_of bound.op ≡ span → (c : ℕ) → has_fitting result.now bound c ≡ has_fitting self.now.by_version.items bound c }
+    {
+        match span {
+            Span::Earlier => one_or_all(self.least.as_slice(), self.by_version.as_slice()),
+            Span::Later => one_or_all(self.greatest.as_slice(), self.by_version.as_slice()),
+            Span::All | Span::Equal => self.by_version.as_slice(),
         }
     }
 }
@@ -128,6 +145,18 @@ fn first_number(list: &[Carried<'_>]) -> Option<u32>
         [first, ..] => Some(first.number),
         [] => None,
     }
+}
+
+fn first_carrier(list: &[Carried<'_>]) -> Option<u32>
+    ensures { result ≡ option_map carried_carrier (slice_get list.now 0) }
+{
+    Some(list.first()?.carrier)
+}
+
+fn last_carrier(list: &[Carried<'_>]) -> Option<u32>
+    ensures { result ≡ option_map carried_carrier (slice_get list.now (length list.now - 1)) }
+{
+    Some(list.last()?.carrier)
 }
 
 // Adds the versions that carriers stand for.

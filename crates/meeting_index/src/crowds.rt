@@ -1,12 +1,12 @@
 // The carriers of the names that many carry.
 
-ghost use Rattle.std.specs.Prelude.{◌≡◌, ℕ, true, ◌||◌, None, Some, Option, if◌then◌else◌, IfOk, OnOk};
+ghost use Rattle.std.specs.Prelude.{◌≡◌, ℕ, true, ◌||◌, None, Some, Option, false, if◌then◌else◌, IfOk, MatchOption, OnOk};
 ghost use Rattle.std.specs.Option.{option_map};
 ghost use Rattle.std.specs.Map.{lookup};
 ghost use Rattle.ascii.specs.Texts.{is_same};
 ghost use Rattle.dep_fields.specs.Relationships.{VersionBound, bound_of};
 ghost use Rattle.lists.specs.Sets.{has};
-ghost use Rattle.meeting_index.specs.Crowds.{AreRight, HasCrowd, IsCrowdOf, crowd_has, crowds_have, is_crowd, kept_has};
+ghost use Rattle.meeting_index.specs.Crowds.{AreRight, HasCrowd, HasEdge, IsCrowdOf, crowd_has, crowds_have, is_crowd, kept_has};
 ghost use Rattle.meeting_index.specs.Finding.{Finds};
 ghost use Rattle.meeting_index.specs.Named.{has_same};
 ghost use Rattle.meeting_index.specs.Provided.{carriers_listed};
@@ -118,6 +118,21 @@ pub fn one_of_crowd<'a>(
     match find(&crowds.by_name, name) {
         Some(crowd) => crowd.one_member(bound),
         None => None,
+    }
+}
+
+/// The carrier at the edge of those of a name that are within a bound, if there is any.
+pub fn edge_of_crowd<'a>(
+    crowds: &Crowds<'a>,
+    name: &'a [u8],
+    op: Op,
+    version: &Version<'a>,
+) -> Option<u32>
+    ensures { MatchOption result ((c : ℕ) → crowds_have crowds.now name.now (Some (bound_of (op, version.now))) c ≡ false) (HasEdge crowds.now name.now (bound_of (op, version.now))) }
+{
+    match find(&crowds.by_name, name) {
+        None => None,
+        Some(crowd) => crowd.edge(op, version),
     }
 }
 

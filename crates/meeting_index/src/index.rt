@@ -1,6 +1,6 @@
 // The index of all versions.
 
-ghost use Rattle.std.specs.Prelude.{◌≡◌, ◌≤◌, ◌||◌, ℕ, length, map, nat_lt, IsTrue, IfOk, OnOk};
+ghost use Rattle.std.specs.Prelude.{◌≡◌, ◌≤◌, ◌||◌, ℕ, length, map, nat_lt, IsTrue, IfOk, IfSome, OnOk};
 ghost use Rattle.std.specs.List.{list_all, list_any};
 ghost use Rattle.lists.specs.Sets.{has, is_rising};
 ghost use Rattle.dep_fields.specs.Relationships.{meaning};
@@ -11,11 +11,13 @@ ghost use Rattle.universe_model.specs.Meeting.{meets, meets_any};
 ghost use Rattle.universe_parts.specs.Listed.{version_listed};
 ghost use Rattle.meeting_index.specs.Carriers.{carried};
 ghost use Rattle.meeting_index.specs.Finding.{Finds};
+ghost use Rattle.meeting_index.specs.Keys.{IsKeyOf};
 
-use crate::crowds::{Crowds, add_crowd, crowd_carriers, is_crowd, one_of_crowd};
+use crate::crowds::{Crowds, add_crowd, crowd_carriers, edge_of_crowd, is_crowd, one_of_crowd};
 use crate::found::{Carriers, add_met, first_met};
 use crate::given::Provided;
 use crate::items::is_again;
+use crate::keys::{AnswerKey, Span, span_of};
 use crate::naming::name_carriers;
 use crate::provided::list_provided;
 use crate::table::NamedNumbers;
@@ -136,6 +138,32 @@ impl<'s, 'a> MeetingIndex<'s, 'a> {
             }
         }
         false
+    }
+
+    /// What the answer to an item is known by, where it may be long: two items with one key are met by the same versions, so
+    /// what was made of the answer to one serves for the other. A name has at most three keys for each of its carriers, and one more.
+    pub fn answer_key(&self, item: &Item<'a>) -> Option<AnswerKey>
+        ensures key { IfSome result (IsKeyOf self.now (meaning item.now)) }
+    {
+        let plain = is_plain(self.native, item.arch);
+        if !plain {
+            return None;
+        }
+        let numbers = self.named.at(item.name);
+        if !is_crowd(numbers) {
+            return None;
+        }
+        match item.rel {
+            None => Some(AnswerKey {
+                span: Span::All,
+                carrier: numbers[0],
+            }),
+            Some((op, version)) => {
+                let carrier = edge_of_crowd(&self.crowds, item.name, op, &version)?;
+                let span = span_of(op);
+                Some(AnswerKey { span, carrier })
+            }
+        }
     }
 
     // One of the versions that meet an item, if there is any.

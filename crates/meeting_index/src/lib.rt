@@ -9,6 +9,7 @@ mod found;
 mod given;
 mod index;
 mod items;
+mod keys;
 mod members;
 mod named;
 mod naming;
@@ -18,3 +19,4 @@ mod sides;
 mod table;
 
 pub use index::MeetingIndex;
+pub use keys::{AnswerKey, Span};

@@ -1,14 +1,15 @@
 // The carriers of one name that have a version.
 
-ghost use Rattle.std.specs.Prelude.{◌≡◌, ◌||◌, ℕ, false, Option, Some, IfOk, OnOk, MatchOption};
-ghost use Rattle.std.specs.List.{list_any, slice_get};
+ghost use Rattle.std.specs.Prelude.{◌≡◌, ◌||◌, ℕ, List, false, true, Option, Some, IfOk, IfSome, OnOk, MatchOption};
+ghost use Rattle.std.specs.List.{Contains, list_any, slice_get};
 ghost use Rattle.std.specs.List.Sorted.{IsSorted};
 ghost use Rattle.dep_fields.specs.Relationships.{VersionBound};
 ghost use Rattle.universe_parts.specs.Listed.{version_listed};
 ghost use Rattle.meeting_index.specs.Carriers.{own};
 ghost use Rattle.meeting_index.specs.Crowds.{finds_as};
 ghost use Rattle.meeting_index.specs.Fitting.{carried_order, has_fitting, passes_with, version_parts};
-ghost use Rattle.meeting_index.specs.Members.{IsFound};
+ghost use Rattle.meeting_index.specs.Members.{AreReal, IsFound};
+ghost use Rattle.lists.specs.Sets.{has};
 ghost use Rattle.meeting_index.specs.Provided.{carrier_of, carriers_listed};
 
 use crate::carried::Carried;
@@ -28,6 +29,7 @@ pub fn members<'a>(
 ) -> Result<Vec<Carried<'a>>, NoMemory>
     ensures fitting { IfOk result (λ list. (bound : VersionBound) (c : ℕ) → has_fitting list.items bound c ≡ list_any (finds_as (carriers_listed carriers.now) (Some bound) c) numbers.now) }
     ensures sorted { IfOk result (λ list. IsSorted carried_order list.items) }
+    ensures real { IfOk result (λ list. AreReal (carriers_listed carriers.now) numbers.now list.items) }
 {
     let mut list = gather(alloc, carriers, numbers)?;
     put_in_order(&mut list);
@@ -38,6 +40,7 @@ pub fn members<'a>(
 fn put_in_order(list: &mut Vec<Carried<'_>>)
     ensures fitting { (bound : VersionBound) (c : ℕ) → has_fitting list.new.items bound c ≡ has_fitting list.old.items bound c }
     ensures sorted { IsSorted carried_order list.new.items }
+    ensures part { (y : Carried) → Contains list.new.items y → Contains list.old.items y }
 {
     list.sort_unstable();
     list.dedup();
@@ -50,6 +53,7 @@ fn gather<'a>(
     numbers: &[u32],
 ) -> Result<Vec<Carried<'a>>, NoMemory>
     ensures fitting { IfOk result (λ list. (bound : VersionBound) (c : ℕ) → has_fitting list.items bound c ≡ list_any (finds_as (carriers_listed carriers.now) (Some bound) c) numbers.now) }
+    ensures real { IfOk result (λ list. AreReal (carriers_listed carriers.now) numbers.now list.items) }
 {
     let mut list = Vec::with_capacity(alloc, numbers.len())?;
     for number in numbers {
@@ -64,7 +68,8 @@ fn add_member<'a>(
     carriers: &Carriers<'_, '_, 'a>,
     number: u32,
 ) -> Result<(), NoMemory>
-    ensures { OnOk result ((bound : VersionBound) (c : ℕ) → has_fitting list.new.items bound c ≡ (has_fitting list.old.items bound c || finds_as (carriers_listed carriers.now) (Some bound) c number)) }
+    ensures real { OnOk result ((numbers : List ℕ) → has numbers number ≡ true → AreReal (carriers_listed carriers.now) numbers list.old.items → AreReal (carriers_listed carriers.now) numbers list.new.items) }
+    ensures fitting { OnOk result ((bound : VersionBound) (c : ℕ) → has_fitting list.new.items bound c ≡ (has_fitting list.old.items bound c || finds_as (carriers_listed carriers.now) (Some bound) c number)) }
 {
     match member(carriers, number) {
         None => Ok(()),
@@ -74,7 +79,8 @@ fn add_member<'a>(
 
 // The carrier with a number, if there is one, and it has a version.
 fn member<'a>(carriers: &Carriers<'_, '_, 'a>, number: u32) -> Option<Carried<'a>>
-    ensures { IsFound (slice_get (carriers_listed carriers.now) number) result }
+    ensures found { IsFound (slice_get (carriers_listed carriers.now) number) result }
+    ensures number { IfSome result (λ y. y.carrier ≡ number) }
 {
     let place = number as usize;
     let own = carriers.versions.len();
@@ -89,7 +95,8 @@ fn member<'a>(carriers: &Carriers<'_, '_, 'a>, number: u32) -> Option<Carried<'a
 
 // A version under its own name.
 fn own_member<'a>(version: &ListedVersion<'_, 'a>, number: u32) -> Option<Carried<'a>>
-    ensures { IsFound (Some (own number (version_listed version.now))) result }
+    ensures found { IsFound (Some (own number (version_listed version.now))) result }
+    ensures number { IfSome result (λ y. y.carrier ≡ number) }
 {
     match version_of(version) {
         None => None,
@@ -112,7 +119,8 @@ fn version_of<'a>(version: &ListedVersion<'_, 'a>) -> Option<Version<'a>>
 
 // An item of Provides.
 fn provided_member<'a>(provided: &Provided<'a>, carrier: u32) -> Option<Carried<'a>>
-    ensures { IsFound (Some (carrier_of provided.now)) result }
+    ensures found { IsFound (Some (carrier_of provided.now)) result }
+    ensures number { IfSome result (λ y. y.carrier ≡ carrier) }
 {
     match provided.given() {
         None => None,

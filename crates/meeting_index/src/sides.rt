@@ -1,6 +1,7 @@
 // One carrier of each number, by the least or the greatest version that it is carried in.
 
-ghost use Rattle.std.specs.Prelude.{◌≡◌, ◌||◌, ℕ, true, IsTrue, IfOk, OnOk};
+ghost use Rattle.std.specs.Prelude.{◌≡◌, ◌||◌, ◌⊎◌, ℕ, true, Some, IsTrue, IfOk, OnOk};
+ghost use Rattle.std.specs.List.{Contains};
 ghost use Rattle.std.specs.List.Sorted.{IsSorted};
 ghost use Rattle.dep_fields.specs.Relationships.{VersionBound};
 ghost use Rattle.meeting_index.specs.Fitting.{Covers, Serves, carried_order, either, fits_as, has_fitting, last_fits, reaches};
@@ -27,6 +28,7 @@ pub fn side_of<'a>(
 ) -> Result<Vec<Carried<'a>>, NoMemory>
     ensures sorted { IfOk result (λ kept. IsSorted carried_order kept.items) }
     ensures serves { IfOk result (λ kept. Serves side by_number.now (either kept.items by_number.now)) }
+    ensures part { IfOk result (λ kept. (y : Carried) → Contains kept.items y → Contains by_number.now y) }
 {
     let mut kept = one_of_each(alloc, side, by_number)?;
     if kept.len() == by_number.len() {
@@ -42,7 +44,8 @@ fn one_of_each<'a>(
     side: Side,
     by_number: &[Carried<'a>],
 ) -> Result<Vec<Carried<'a>>, NoMemory>
-    ensures { IfOk result (λ kept. Serves side by_number.now kept.items) }
+    ensures serves { IfOk result (λ kept. Serves side by_number.now kept.items) }
+    ensures part { IfOk result (λ kept. (y : Carried) → Contains kept.items y → Contains by_number.now y) }
 {
     let mut kept = Vec::new(alloc);
     let mut last = None;
@@ -66,7 +69,8 @@ fn keep_last<'a>(
     last: Option<Carried<'a>>,
     next: &Carried<'a>,
 ) -> Result<(), NoMemory>
-    ensures { OnOk result ((bound : VersionBound) (c : ℕ) → reaches side bound.op ≡ true → (has_fitting kept.new.items bound c || fits_as bound c next.now) ≡ ((has_fitting kept.old.items bound c || last_fits bound c last.entry) || fits_as bound c next.now)) }
+    ensures part { OnOk result ((y : Carried) → Contains kept.new.items y → Contains kept.old.items y ⊎ (last.entry ≡ Some y)) }
+    ensures serves { OnOk result ((bound : VersionBound) (c : ℕ) → reaches side bound.op ≡ true → (has_fitting kept.new.items bound c || fits_as bound c next.now) ≡ ((has_fitting kept.old.items bound c || last_fits bound c last.entry) || fits_as bound c next.now)) }
 {
     let Some(last) = last else {
         return Ok(());

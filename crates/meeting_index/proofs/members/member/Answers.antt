@@ -21,7 +21,10 @@ returns-then-place-own c =
     let is : slice_get (carriers_listed c.args.carriers.now) place ≡ Some (own place (version_listed version)) =
     slice_get-own 0 (map version_listed versions) (map carrier_of c.args.carriers.now.provided.now) place (version_listed version) there
     ∙ ap (λ m. Some (own m (version_listed version))) (zero-add place) in
-    subst (λ (found : Option Carrier). IsFound found c.own_member.result) (sym is) c.own_member.ensures
+    record {
+      found = subst (λ (found : Option Carrier). IsFound found c.own_member.result) (sym is) c.own_member.ensures.found;
+      number = c.own_member.ensures.number;
+    }
 
 pub returns-then-place-own-2 : goal.returns-then-place-own-2
 returns-then-place-own-2 c =
@@ -31,8 +34,11 @@ returns-then-place-own-2 c =
     let there : slice_get (map carrier_of provided) place ≡ Some (carrier_of item) =
     slice_get-map carrier_of provided place
     ∙ ap (option_map carrier_of) (slice_get-get_or provided place c.index-carriers-place-then-place-own-2.result c.if-place-own-2.true) in
-    subst (λ (found : Option Carrier). IsFound found c.provided_member.result) (sym (carrier-behind c.args.carriers.now c.args.number c.if-place-own.false ∙ there))
-    c.provided_member.ensures
+    record {
+      found = subst (λ (found : Option Carrier). IsFound found c.provided_member.result) (sym (carrier-behind c.args.carriers.now c.args.number c.if-place-own.false ∙ there))
+          c.provided_member.ensures.found;
+      number = c.provided_member.ensures.number;
+    }
 
 pub returns-else-place-own-2 : goal.returns-else-place-own-2
 returns-else-place-own-2 c =
@@ -40,4 +46,7 @@ returns-else-place-own-2 c =
     let place = c.args.number - length c.args.carriers.now.versions.now in
     let none : slice_get (map carrier_of provided) place ≡ None =
     slice_get-map carrier_of provided place ∙ ap (option_map carrier_of) (slice_get_past provided place c.if-place-own-2.false) in
-    subst (λ (found : Option Carrier). IsFound found None) (sym (carrier-behind c.args.carriers.now c.args.number c.if-place-own.false ∙ none)) tt
+    record {
+      found = subst (λ (found : Option Carrier). IsFound found None) (sym (carrier-behind c.args.carriers.now c.args.number c.if-place-own.false ∙ none)) tt;
+      number = tt;
+    }

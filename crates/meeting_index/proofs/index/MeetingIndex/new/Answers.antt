@@ -1,7 +1,8 @@
 -- The carriers are those of the versions and of what they provide.
-use Rattle.std.proofs.Common.{◌≡◌, ◌∙◌, ap, map, ◌++◌, ℕ, Bool}
+use Rattle.std.proofs.Common.{subst, List, ◌≡◌, ◌∙◌, ap, map, ◌++◌, ℕ, Bool}
 use Rattle.std.specs.List.{list_any}
-use Rattle.meeting_index.specs.Carriers.{carriers, is_named, own}
+use Rattle.meeting_index.specs.Carriers.{Carrier, carriers, is_named, own}
+use Rattle.meeting_index.specs.Crowds.{IsRealCrowd}
 use Rattle.meeting_index.specs.Provided.{carrier_of}
 use Rattle.meeting_index.specs.Tables.{numbers_at}
 use Rattle.meeting_index.specs.declared.named.Name.{Name}
@@ -25,7 +26,10 @@ invariant_of-result c =
       provided = c.in_ok-provided.ensures;
       named = named;
       crowds = λ name many bound n.
-          c.in_ok-crowds.ensures name many bound n
+          (c.in_ok-crowds.ensures name many).finds bound n
           ∙ crowd-carriers native vs (owns ++ map carrier_of c.as_slice-2.result.now) name.bytes.now (numbers_at table name.bytes.now) bound n
           (ap (λ ps. owns ++ ps) (ap (map carrier_of) c.as_slice-2.ensures.value ∙ c.in_ok-provided.ensures)) (named name);
+      real = λ name many crowd there.
+          subst (λ (cs : List Carrier). IsRealCrowd cs (numbers_at table name.bytes.now) crowd)
+          (ap (λ ps. owns ++ ps) (ap (map carrier_of) c.as_slice-2.ensures.value ∙ c.in_ok-provided.ensures)) ((c.in_ok-crowds.ensures name many).real crowd there);
     }
