@@ -6,7 +6,7 @@ use Rattle.std.proofs.lemmas.List.Folds.{list_all-append}
 use Rattle.std.proofs.lemmas.Bool.{and_from, and_parts, leb-true, le-leb}
 use Rattle.std.proofs.Math.Seq.{drop-append_seam, take-length}
 use Rattle.requirement_list.specs.declared.left.Entry.{Entry}
-use Rattle.requirement_list.specs.Left.{Left, left_in, all_left, is_entry}
+use Rattle.requirement_list.specs.Left.{left_in, all_left, is_entry}
 
 pub range_more : {A : Type 0} (xs ys : List A) (a b : ℕ) → a ≤ b → b ≤ length xs → slice_range (xs ++ ys) a b ≡ slice_range xs a b
 range_more xs ys a b h k =

@@ -6,6 +6,7 @@ pub mod Unmet
 pub mod Meets
 pub mod Concerned
 pub mod FlatLeft
+pub mod SameAnswers
 pub mod Rows
 pub mod Releases
 pub mod Wholes

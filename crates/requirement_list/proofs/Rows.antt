@@ -1,21 +1,21 @@
 -- What is listed for items: rows of a table, and the dependencies that they give.
-use Rattle.std.proofs.Common.{inl, inr, ◌⊎◌, ◌≡◌, ◌<◌, ◌≤◌, ◌+◌, ◌∙◌, ℕ, zero, suc, List, [], ◌∷◌, ◌++◌, Bool, true, false, ◌&&◌, not, cond, map, length, get_or, refl, sym, ap, subst, arith, nat_lt, nat_eq, length-append}
-use Rattle.std.specs.Prelude.{◌==◌, Some, Result}
+use Rattle.std.proofs.Common.{inl, inr, ◌⊎◌, ◌≡◌, ◌<◌, ◌≤◌, ◌+◌, ◌∙◌, ℕ, zero, suc, List, [], ◌∷◌, ◌++◌, Bool, true, false, ◌&&◌, not, cond, map, length, get_or, refl, sym, ap, subst, arith, nat_lt, length-append}
+use Rattle.std.specs.Prelude.{◌==◌, Option, Some, Result, IfSome}
 use Rattle.std.specs.List.{filter, list_all, slice_get, slice_range}
 use Rattle.std.proofs.lemmas.Bool.{and_from}
-use Rattle.std.proofs.lemmas.Option.{slice_get_within}
 use Rattle.lists.specs.Below.{below}
 use Rattle.lists.specs.Sets.{is_rising}
-use Rattle.dep_fields.specs.Relationships.{Relationship, meaning}
-use Rattle.dep_fields.specs.declared.Item.{Item}
-use Rattle.universe_model.specs.Lists.{numbers_of}
+use Rattle.dep_fields.specs.Relationships.{Relationship}
+use Rattle.meeting_index.specs.Keys.{IsKeyOf}
+use Rattle.meeting_index.specs.declared.keys.AnswerKey.{AnswerKey}
+use Rattle.requirement_list.proofs.SameAnswers.{same_row}
 use Rattle.universe_model.specs.Versions.{Version, is_of}
 use Rattle.universe_model.specs.Meeting.{meets}
 use Rattle.universe_model.specs.Dependencies.{Setting, Requirement, is_met_in, unmet_in, avoided, concerned, of_conflict}
 use Rattle.meeting_index.proofs.Numbers.{numbers_from-below}
 use Rattle.requirement_list.specs.Extents.{lists, Serves}
 use Rattle.requirement_list.specs.Left.{Left, nothing_left, is_sound, opposed, of_left, others}
-use Rattle.requirement_list.specs.Answers.{met_packages, left_by, row_of, IsRow, AreRows, IsKept}
+use Rattle.requirement_list.specs.Answers.{met_packages, left_by, row_of, index_in, IsRow, AreRows, IsKept}
 use Rattle.requirement_list.specs.declared.answers.Answers.{Answers}
 use Rattle.requirement_list.specs.declared.answers.Extent.{Extent}
 use Rattle.requirement_list.specs.declared.answers.Row.{Row}
@@ -121,18 +121,18 @@ row_more : (s : Setting) (table more : List Left) (row : Row) → IsRow s table 
 row_more s table more row h = record {
   order = h.order;
   within = omega (arith, h.within, length-append table more);
-  is = range_more table more row.first row.end h.order h.within ∙ h.is;
+  is = λ item k. range_more table more row.first row.end h.order h.within ∙ h.is item k;
 }
 
-pub rows_kept : (s : Setting) (old new : Answers) (row : Row) (listed : List Left) → new.rows.items ≡ old.rows.items ++ row ∷ [] → new.table ≡ old.table ++ listed
-    → row.first ≡ length old.table → row.end ≡ length new.table → listed ≡ row_of s (meaning row.item) row.extent → AreRows s old → AreRows s new
-rows_kept s old new row listed rows table first end is h = record { each = each }
+pub rows_kept : (s : Setting) (item : Relationship) (old new : Answers) (row : Row) (listed : List Left) → new.rows.items ≡ old.rows.items ++ row ∷ [] → new.table ≡ old.table ++ listed
+    → row.first ≡ length old.table → row.end ≡ length new.table → IsKeyOf (index_in s) item row.key → listed ≡ row_of s item row.extent → AreRows s old → AreRows s new
+rows_kept s item old new row listed rows table first end key is h = record { each = each }
   where
     own : IsRow s (old.table ++ listed) row
     own = record {
       order = omega (arith, first, end, ap length table, length-append old.table listed);
       within = omega (arith, end, ap length table);
-      is = rw (first, end, table) (range_end old.table listed) ∙ is;
+      is = λ other k. rw (first, end, table) (range_end old.table listed) ∙ is ∙ same_row s item other row.key row.extent key k;
     }
 
     each : (place : ℕ) (other : Row) → slice_get new.rows.items place ≡ Some other → IsRow s new.table other
@@ -160,10 +160,13 @@ row_adds s source own item extent left old result new past is serves h =
     let given = h f (λ e. subst P (sym is) (left_avoided s source own item extent (serves e))) in
     subst Q (ap (λ ls. map f (others own ls)) is ∙ ap (map f) (other_packages s item extent own)) given
 
--- a row that is kept of an item stands in the table
-pub kept_row : (s : Setting) (answers : Answers) (row : Row) (item : Relationship) → AreRows s answers → IsKept answers row item → IsRow s answers.table row
-kept_row s answers row item h kept = h.each kept.place row kept.there
+-- ---- a row that is kept
 
-pub kept_is : (s : Setting) (answers : Answers) (row : Row) (item : Relationship) → AreRows s answers → IsKept answers row item
+pub kept_row : (s : Setting) (answers : Answers) (key : Option AnswerKey) (row : Row) → AreRows s answers → IsKept answers key row → IsRow s answers.table row
+kept_row s answers key row h kept = h.each kept.place row kept.there
+
+pub kept_is : (s : Setting) (answers : Answers) (key : Option AnswerKey) (row : Row) (item : Relationship) → AreRows s answers → IsKept answers key row → IfSome key (IsKeyOf (index_in s) item)
     → slice_range answers.table row.first row.end ≡ row_of s item row.extent
-kept_is s answers row item h kept = (h.each kept.place row kept.there).is ∙ ap (λ i. row_of s i row.extent) kept.same
+kept_is s answers key row item h kept given =
+    let P : Option AnswerKey → Type 0 = λ k. IfSome k (IsKeyOf (index_in s) item) in
+    (h.each kept.place row kept.there).is item (subst P kept.same given)

@@ -1,15 +1,15 @@
-//! What was listed of items of Conflicts and Breaks, kept for when an item comes again.
+//! What was listed for items of Conflicts and Breaks, kept for when an item comes again that the same versions meet.
 
-ghost use Rattle.std.specs.Prelude.{◌≡◌, ◌++◌, ◌∷◌, [], false, IsTrue, IfSome, OnOk, length};
-ghost use Rattle.dep_fields.specs.Relationships.{Relationship, meaning};
+ghost use Rattle.std.specs.Prelude.{◌≡◌, false, IsTrue, IfSome, OnOk};
+ghost use Rattle.dep_fields.specs.Relationships.{Relationship};
+ghost use Rattle.meeting_index.specs.Keys.{IsKeyOf};
 ghost use Rattle.universe_model.specs.Dependencies.{Setting};
 ghost use Rattle.requirement_list.specs.Extents.{lists, Serves};
-ghost use Rattle.requirement_list.specs.Answers.{AreRows, IsKept, row_of};
+ghost use Rattle.requirement_list.specs.Answers.{AreRows, IsKept, index_in, row_of};
 
-use crate::item_key::{ItemKey, is_same_item, key_of};
 use crate::left::LeftTable;
 use choice_set::NoMemory;
-use dep_fields::Item;
+use meeting_index::AnswerKey;
 use std::alloc::Global;
 use std::collections::BTreeMap;
 
@@ -46,29 +46,33 @@ impl Extent {
     }
 }
 
-/// An item, and where its packages stand.
+/// What the answer to items is known by, and where the packages stand that they concern.
 #[derive(Clone, Copy, Drop)]
-pub struct Row<'a> {
-    pub item: Item<'a>,
+pub struct Row {
+    pub key: AnswerKey,
     pub extent: Extent,
     pub first: usize,
     pub end: usize,
 }
 
-/// Items with the packages that they concern. At most 262,144 items are kept.
+/// What was listed for items, by what their answers are known by.
 #[derive(Drop)]
-pub struct Answers<'a> {
+pub struct Answers {
     pub table: LeftTable,
-    pub rows: Vec<Row<'a>>,
-    // the places of the items in the rows; the latest, where an item was listed more than once
-    places: BTreeMap<ItemKey<'a>, usize>,
+    pub rows: Vec<Row>,
+    // the place of each key's row, of its latest where it was listed more than once
+    places: BTreeMap<AnswerKey, usize>,
 }
 
-const MOST_ROWS: usize = 262_144;
+fn is_same_key(a: AnswerKey, b: AnswerKey) -> bool
+    ensures { IsTrue result → a ≡ b }
+{
+    a.span == b.span && a.carrier == b.carrier
+}
 
-impl<'a> Answers<'a> {
-    /// No items.
-    pub fn new(alloc: Global) -> Answers<'a>
+impl Answers {
+    /// Nothing.
+    pub fn new(alloc: Global) -> Answers
         ensures { (s : Setting) → AreRows s result }
     {
         Answers {
@@ -78,23 +82,24 @@ impl<'a> Answers<'a> {
         }
     }
 
-    /// What is kept of an item, as it was listed the last time.
-    pub fn find(&self, item: &Item<'a>) -> Option<Row<'a>>
-        ensures { IfSome result (λ row. IsKept self.now row (meaning item.now)) }
+    // What was listed the last time.
+    fn find(&self, key: Option<AnswerKey>) -> Option<Row>
+        ensures { IfSome result (IsKept self.now key) }
     {
-        let place = *self.places.get(&key_of(item))?;
+        let key = key?;
+        let place = *self.places.get(&key)?;
         let row = *self.rows.get(place)?;
-        if is_same_item(&row.item, item) {
+        if is_same_key(key, row.key) {
             return Some(row);
         }
         None
     }
 
-    /// What is kept of an item, if it serves a source of the package `own`, whose dependencies are only counted or not.
-    pub fn find_serving(&self, item: &Item<'a>, own: u32, counts: bool) -> Option<Row<'a>>
-        ensures { IfSome result (λ row. IsKept self.now row (meaning item.now) × (counts ≡ false → Serves row.extent own)) }
+    /// What was listed, if it serves a source of the package `own`, whose dependencies are only counted or not.
+    pub fn find_serving(&self, key: Option<AnswerKey>, own: u32, counts: bool) -> Option<Row>
+        ensures { IfSome result (λ row. IsKept self.now key row × (counts ≡ false → Serves row.extent own)) }
     {
-        let row = self.find(item)?;
+        let row = self.find(key)?;
         if counts || row.extent.serves(own) {
             return Some(row);
         }
@@ -103,43 +108,40 @@ impl<'a> Answers<'a> {
 
     /// How much is to be listed for a source of the package `own`. The versions of that package itself are listed only when
     /// another source asks for them.
-    pub fn extent_for(&self, item: &Item<'a>, own: u32, counts: bool) -> Extent
+    pub fn extent_for(&self, key: Option<AnswerKey>, own: u32, counts: bool) -> Extent
         ensures { counts ≡ false → Serves result own }
     {
         if counts {
             return Extent::Packages;
         }
-        if self.find(item).is_some() {
+        if self.find(key).is_some() {
             return Extent::All;
         }
         Extent::AllBut(own)
     }
 
-    /// Keeps what was listed for an item, as long as there is room.
+    /// Keeps what was listed.
     ///
     /// The only error is `NoMemory`.
     pub fn keep(
         &mut self,
-        item: &Item<'a>,
+        key: AnswerKey,
         extent: Extent,
         listed: &LeftTable,
     ) -> Result<(), NoMemory>
-        ensures { OnOk result ((s : Setting) → listed.now ≡ row_of s (meaning item.now) extent → AreRows s self.old → AreRows s self.new) }
+        ensures { OnOk result ((s : Setting) (item : Relationship) → IsKeyOf (index_in s) item key → listed.now ≡ row_of s item extent → AreRows s self.old → AreRows s self.new) }
     {
-        if self.rows.len() >= MOST_ROWS {
-            return Ok(());
-        }
         let first = self.table.len();
         self.table.append(listed)?;
         let end = self.table.len();
         let place = self.rows.len();
         self.rows.push(Row {
-            item: *item,
+            key,
             extent,
             first,
             end,
         })?;
-        self.places.insert(key_of(item), place)?;
+        self.places.insert(key, place)?;
         Ok(())
     }
 }

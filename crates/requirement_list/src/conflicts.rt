@@ -1,11 +1,12 @@
 //! The dependencies of Conflicts and of Breaks (Debian Policy 7.3 and 7.4).
 
-ghost use Rattle.std.specs.Prelude.{◌≡◌, ◌<◌, ◌≤◌, ℕ, ◌∷◌, [], map, length, true, false, IsTrue, slice_index_or, OnOk};
+ghost use Rattle.std.specs.Prelude.{◌≡◌, ◌<◌, ◌≤◌, ℕ, ◌∷◌, [], map, length, true, false, IsTrue, slice_index_or, IfSome, OnOk};
 ghost use Rattle.std.specs.List.{list_all, flat_map, slice_range};
 ghost use Rattle.resolver_model.specs.Problems.{version_count};
 ghost use Rattle.dep_fields.specs.Relationships.{meaning};
 ghost use Rattle.dep_fields.specs.Views.{group_items};
 ghost use Rattle.stanza.specs.Fields.{is_relation};
+ghost use Rattle.meeting_index.specs.Keys.{IsKeyOf};
 ghost use Rattle.universe_model.specs.Versions.{single_groups_of};
 ghost use Rattle.universe_model.specs.Dependencies.{Requirement, of_conflict, of_conflicts};
 ghost use Rattle.requirement_list.specs.Settings.{owners_of, setting_of};
@@ -18,11 +19,8 @@ use crate::collected::{Collected, Field};
 use crate::left::LeftTable;
 use crate::walk::list_row;
 use dep_fields::{Group, Item, SoundGroups};
-use meeting_index::MeetingIndex;
+use meeting_index::{AnswerKey, MeetingIndex};
 use universe_model::BuildEnd;
-
-// What is listed of an item that no more versions meet is not kept.
-const FEW: usize = 16;
 
 // Adds the dependency on the versions that are left of the package at a place, unless the package is the source's own.
 fn add_left(
@@ -124,28 +122,29 @@ fn add_row(
     put_row(table, first, end, collected, source, own)
 }
 
-// Adds the dependencies of an item of Conflicts or Breaks, for which nothing is kept that serves. What was listed is kept
-// where many versions meet the item.
+// Adds the dependencies of an item of Conflicts or Breaks, for which nothing is kept that serves. What is listed for it is kept.
 fn add_anew<'a>(
     index: &MeetingIndex<'_, 'a>,
     collected: &mut Collected,
     source: u32,
     own: u32,
     item: &Item<'a>,
-    room: &mut Room<'a>,
+    key: Option<AnswerKey>,
+    room: &mut Room,
 ) -> Result<(), BuildEnd>
     requires owners { collected.old.builder.owners ≡ owners_of index.now.versions }
     requires source { source < length index.now.versions }
+    requires key { IfSome key (IsKeyOf index.now (meaning item.now)) }
     requires kept { AreRows (setting_of index.now collected.old) room.old.answers }
     ensures adds { Adds (of_conflict (setting_of index.now collected.old) source own (meaning item.now)) collected.old result collected.new }
     ensures kept { OnOk result (AreRows (setting_of index.now collected.old) room.new.answers) }
 {
-    let extent = room.answers.extent_for(item, own, collected.past);
+    let extent = room.answers.extent_for(key, own, collected.past);
     let problem = collected.builder.problem();
     list_row(index, problem, item, extent, &mut room.walk)?;
     let listed = &room.walk.listed;
-    if room.walk.met.len() > FEW {
-        room.answers.keep(item, extent, listed)?;
+    if let Some(key) = key {
+        room.answers.keep(key, extent, listed)?;
     }
     add_row(listed, 0, listed.len(), collected, source, own)
 }
@@ -158,7 +157,7 @@ fn add_conflict<'a>(
     source: u32,
     own: u32,
     item: &Item<'a>,
-    room: &mut Room<'a>,
+    room: &mut Room,
 ) -> Result<(), BuildEnd>
     requires owners { collected.old.builder.owners ≡ owners_of index.now.versions }
     requires source { source < length index.now.versions }
@@ -166,18 +165,12 @@ fn add_conflict<'a>(
     ensures adds { Adds (of_conflict (setting_of index.now collected.old) source own (meaning item.now)) collected.old result collected.new }
     ensures kept { OnOk result (AreRows (setting_of index.now collected.old) room.new.answers) }
 {
-    let kept = room.answers.find_serving(item, own, collected.past);
-    if let Some(row) = kept {
-        return add_row(
-            &room.answers.table,
-            row.first,
-            row.end,
-            collected,
-            source,
-            own,
-        );
+    let key = index.answer_key(item);
+    let answers = &room.answers;
+    if let Some(row) = answers.find_serving(key, own, collected.past) {
+        return add_row(&answers.table, row.first, row.end, collected, source, own);
     }
-    add_anew(index, collected, source, own, item, room)
+    add_anew(index, collected, source, own, item, key, room)
 }
 
 // Adds the dependencies of the items of a group.
@@ -187,7 +180,7 @@ fn add_items<'a>(
     source: u32,
     own: u32,
     group: &Group<'a>,
-    room: &mut Room<'a>,
+    room: &mut Room,
 ) -> Result<(), BuildEnd>
     requires owners { collected.old.builder.owners ≡ owners_of index.now.versions }
     requires source { source < length index.now.versions }
@@ -210,7 +203,7 @@ pub fn add_conflicts<'a>(
     source: u32,
     own: u32,
     value: &'a [u8],
-    room: &mut Room<'a>,
+    room: &mut Room,
 ) -> Result<(), BuildEnd>
     requires owners { collected.old.builder.owners ≡ owners_of index.now.versions }
     requires source { source < length index.now.versions }

@@ -17,7 +17,6 @@ mod collected;
 mod conflicts;
 mod groups;
 mod installed;
-mod item_key;
 mod left;
 mod versions;
 mod walk;
@@ -51,10 +50,10 @@ struct Indexes<'i, 's, 'a> {
 
 // Room that is used again for each dependency, and what was listed of items of Conflicts and Breaks.
 #[derive(Drop)]
-struct Room<'a> {
+struct Room {
     targets: Vec<u32>,
     walk: Walk,
-    answers: Answers<'a>,
+    answers: Answers,
 }
 
 /// Lists the dependencies of all versions in order, as a problem over the packages of the builder, which has the installed

@@ -26,7 +26,7 @@ fn add_release<'a>(
     source: u32,
     own: u32,
     read: &ReadStanza<'a>,
-    room: &mut Room<'a>,
+    room: &mut Room,
 ) -> Result<(), BuildEnd>
     requires owners { collected.old.builder.owners ≡ owners_of indexes.now.all.versions }
     requires installed { HasInstalled collected.old.builder.starts indexes.now }
@@ -63,7 +63,7 @@ pub fn add_version<'a>(
     collected: &mut Collected,
     source: u32,
     version: &ListedVersion<'_, 'a>,
-    room: &mut Room<'a>,
+    room: &mut Room,
 ) -> Result<(), BuildEnd>
     requires owners { collected.old.builder.owners ≡ owners_of indexes.now.all.versions }
     requires installed { HasInstalled collected.old.builder.starts indexes.now }
@@ -84,7 +84,7 @@ pub fn add_versions<'a>(
     indexes: &Indexes<'_, '_, 'a>,
     collected: &mut Collected,
     versions: &[ListedVersion<'_, 'a>],
-    room: &mut Room<'a>,
+    room: &mut Room,
 ) -> Result<(), BuildEnd>
     requires owners { collected.old.builder.owners ≡ owners_of indexes.now.all.versions }
     requires all { indexes.now.all.versions ≡ map version_listed versions.now }

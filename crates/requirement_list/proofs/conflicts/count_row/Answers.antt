@@ -1,4 +1,4 @@
-use Rattle.std.proofs.Common.{ℕ, List, ◌+◌, [], ◌∷◌, map, get_or, arith, subst}
+use Rattle.std.proofs.Common.{List, ◌+◌, [], ◌∷◌, map, get_or, subst}
 use Rattle.std.specs.List.{slice_range}
 use Rattle.std.proofs.lemmas.Result.{err_from_is_err_and}
 use Rattle.universe_model.specs.Dependencies.{Requirement}

@@ -1,5 +1,5 @@
 -- Past the limit of targets a dependency that is not broken now is counted.
-use Rattle.std.proofs.Common.{◌≡◌, ◌∙◌, ap, sym, subst, List, [], ◌∷◌, false, ◌&&◌, not}
+use Rattle.std.proofs.Common.{◌≡◌, ◌∙◌, ap, sym, subst, List, false, ◌&&◌, not}
 use Rattle.std.specs.List.{list_any}
 use Rattle.lists.specs.Sets.{has}
 use Rattle.resolver_model.specs.Problems.{Problem}

@@ -1,4 +1,4 @@
-use Rattle.std.proofs.Common.{◌≡◌, ◌+◌, ◌∙◌, List, ◌∷◌, ◌++◌, [], true, false, length, map, take, ap, sym, subst, arith, length-append}
+use Rattle.std.proofs.Common.{◌≡◌, ◌+◌, List, ◌∷◌, ◌++◌, [], true, false, length, map, take, ap, sym, subst, arith, length-append}
 use Rattle.lists.specs.Sets.{has}
 use Rattle.universe_parts.specs.Listed.{version_listed}
 use Rattle.universe_parts.specs.declared.listed.ListedVersion.{ListedVersion}

@@ -1,5 +1,5 @@
-use Rattle.std.proofs.Common.{◌≡◌, ◌+◌, ◌++◌, ◌∷◌, [], ◌∙◌, List, ap, sym, get_or, take, append_assoc, arith, length}
-use Rattle.std.proofs.lemmas.List.{append-nil, take_all, take_more}
+use Rattle.std.proofs.Common.{◌≡◌, ◌++◌, ◌∷◌, [], ◌∙◌, List, ap, sym, get_or, take, append_assoc, arith}
+use Rattle.std.proofs.lemmas.List.{take_all, take_more}
 use Rattle.requirement_list.specs.Left.{Left, nothing_left}
 use Rattle.requirement_list.proofs.left.LeftTable.append.Goals as goal
 
