@@ -5,3 +5,4 @@ pub mod VersionBytes
 pub mod Taken
 pub mod Spelled
 pub mod Laws
+pub mod Provided

@@ -3,6 +3,8 @@ pub mod Tokens
 pub mod TokenViews
 pub mod Relationships
 pub mod Fields
+pub mod Provides
 pub mod Cuts
 pub mod Views
+pub mod Checked
 pub mod Grammar

@@ -9,10 +9,13 @@ ghost use Rattle.dep_fields.specs.Grammar.{ReadsItems, SeesRestrictions, ReadsFi
 use deb_version::Version;
 use std::cmp::Ordering;
 
+mod checked;
+mod checks;
 mod groups;
 mod items;
 mod tokens;
 
+pub use checked::{AlternativesField, ProvidesField, SingleField};
 pub use groups::{Group, Groups, Items, SoundGroups};
 pub use tokens::is_package_name;
 

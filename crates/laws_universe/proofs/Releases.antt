@@ -33,7 +33,7 @@ release-well : (n : ℕ) (read : ReadStanza) → IsReadWell n read → read.stan
 release-well n read well there = record {
   version = well.version there;
   same = refl;
-  few = omega (arith, groups_of-few read.stanza.recommends, well.recommends);
+  few = omega (arith, groups_of-few read.stanza.relations.recommends, well.recommends);
 }
 
 releases-well : (n : ℕ) (stanzas : List ReadStanza) (name : List ℕ) → All (IsReadWell n) stanzas → All (IsReleaseWell n) (releases_of stanzas name)

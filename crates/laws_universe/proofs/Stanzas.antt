@@ -13,7 +13,7 @@ use Rattle.deb_version.specs.Versions.{is_version}
 use Rattle.dep_fields.specs.Tokens.{is_name}
 use Rattle.stanza.specs.Fields.{field_in, value_in, value_or_nothing, text_in}
 use Rattle.stanza.specs.Statuses.{StatusText}
-use Rattle.stanza.specs.Stanzas.{StanzaText, package_fault, status_fault, version_fault, relation_fault, content_fault, fault_of_needed, fault_at, content_in, no_content, stanza_with, stanza_text, unless_fault, package_stanza, status_in, status_stanza}
+use Rattle.stanza.specs.Stanzas.{StanzaText, package_fault, status_fault, version_fault, relation_fault, content_fault, fault_of_needed, fault_at, stanza_text, unless_fault, package_stanza, status_in, status_stanza}
 use Rattle.stanza.specs.declared.StanzaFault.{StanzaFault}
 use Rattle.stanza.specs.declared.StanzaKind.{StanzaKind}
 use Rattle.stanza.specs.declared.StanzaKind.TheVariants.{NoPackage, BadPackage, NoVersion, BadVersion}
@@ -71,7 +71,7 @@ unwrap-value (Some value) = refl
 pub record IsReadWell (n : ℕ) (read : ReadStanza) : Type 0 where
   pub name : is_name read.stanza.name ≡ true
   pub version : read.stanza.present ≡ true → is_version (version_text read) ≡ true
-  pub recommends : length read.stanza.recommends ≤ n
+  pub recommends : length read.stanza.relations.recommends ≤ n
 
 version-there : (p : ParagraphText) → version_fault p ≡ None → is_version (unwrap_or (value_in p (codes "Version")) []) ≡ true
 version-there p h = ap is_version (unwrap-value (value_in p (codes "Version"))) ∙ needed-passes p.line NoVersion BadVersion is_version (field_in p (codes "Version")) h
@@ -81,7 +81,7 @@ stanza-well : (n : ℕ) (p : ParagraphText) (status : StatusText) → IsShort n 
     → IsReadWell n (beside p (stanza_text p status))
 stanza-well n p status short named content = by status.present content
   where
-    by : (b : Bool) → (b ≡ true → content_fault p ≡ None) → IsReadWell n (beside p (stanza_with p (text_in p (codes "Package")) (record { hold = status.hold; present = b }) (cond b (content_in p) no_content)))
+    by : (b : Bool) → (b ≡ true → content_fault p ≡ None) → IsReadWell n (beside p (stanza_text p (record { hold = status.hold; present = b })))
     by true content = record {
       name = needed-passes p.line NoPackage BadPackage is_name (field_in p (codes "Package")) named;
       version = λ _. version-there p (option_or-none (version_fault p) (relation_fault p) (content refl)).0;

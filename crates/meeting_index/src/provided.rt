@@ -3,17 +3,16 @@
 ghost use Rattle.std.specs.Prelude.{◌≡◌, ◌≤◌, ◌++◌, ◌∷◌, [], true, false, ◌<◌, ◌^◌, length, map, if◌then◌else◌, IfOk, OnOk};
 ghost use Rattle.std.specs.List.{flat_map};
 ghost use Rattle.dep_fields.specs.Relationships.{meaning};
+ghost use Rattle.dep_fields.specs.Checked.{provides_groups};
 ghost use Rattle.dep_fields.specs.Views.{group_items};
 ghost use Rattle.problem.specs.Limits.{most_versions};
-ghost use Rattle.stanza.specs.Fields.{is_relation};
-ghost use Rattle.universe_model.specs.Versions.{single_groups_of};
 ghost use Rattle.universe_parts.specs.Listed.{version_listed};
 ghost use Rattle.meeting_index.specs.Carriers.{all_provided, has_plain_arch, provided, provided_by, provided_in};
 ghost use Rattle.meeting_index.specs.Provided.{carrier_of};
 
 use crate::given::Provided;
 use choice_set::NoMemory;
-use dep_fields::{Group, Item, SoundGroups};
+use dep_fields::{Group, Item, ProvidesField};
 use std::alloc::Global;
 use universe_parts::{ListedVersion, is_plain};
 
@@ -46,21 +45,19 @@ fn add_version<'a>(
 {
     match version.read {
         None => Ok(()),
-        Some(read) => add_groups(list, native, number, read.stanza.provides),
+        Some(read) => add_groups(list, native, number, read.stanza.relations.provides),
     }
 }
 
-#[tactic(auto, unfolding(dep_fields::specs::Fields::field_of))]
 fn add_groups<'a>(
     list: &mut Vec<Provided<'a>>,
     native: &[u8],
     number: u32,
-    provides: &'a [u8],
+    provides: ProvidesField<'a>,
 ) -> Result<(), NoMemory>
-    requires { is_relation false provides.now ≡ true }
-    ensures { OnOk result (map carrier_of list.new.items ≡ map carrier_of list.old.items ++ flat_map (provided_in native.now number) (single_groups_of provides.now)) }
+    ensures { OnOk result (map carrier_of list.new.items ≡ map carrier_of list.old.items ++ flat_map (provided_in native.now number) (provides_groups provides.entry)) }
 {
-    for group in SoundGroups::new(provides, false) {
+    for group in provides.groups() {
         add_group(list, native, number, &group)?;
     }
     Ok(())

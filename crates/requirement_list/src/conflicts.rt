@@ -4,10 +4,9 @@ ghost use Rattle.std.specs.Prelude.{◌≡◌, ◌<◌, ◌≤◌, ℕ, ◌∷�
 ghost use Rattle.std.specs.List.{list_all, flat_map, slice_range};
 ghost use Rattle.resolver_model.specs.Problems.{version_count};
 ghost use Rattle.dep_fields.specs.Relationships.{meaning};
+ghost use Rattle.dep_fields.specs.Checked.{single_groups};
 ghost use Rattle.dep_fields.specs.Views.{group_items};
-ghost use Rattle.stanza.specs.Fields.{is_relation};
 ghost use Rattle.meeting_index.specs.Keys.{IsKeyOf};
-ghost use Rattle.universe_model.specs.Versions.{single_groups_of};
 ghost use Rattle.universe_model.specs.Dependencies.{Requirement, of_conflict, of_conflicts};
 ghost use Rattle.requirement_list.specs.Settings.{owners_of, setting_of};
 ghost use Rattle.requirement_list.specs.Left.{is_sound, nothing_left, of_left, others};
@@ -18,7 +17,7 @@ use crate::Room;
 use crate::collected::{Collected, Field};
 use crate::left::LeftTable;
 use crate::walk::list_row;
-use dep_fields::{Group, Item, SoundGroups};
+use dep_fields::{Group, Item, SingleField};
 use meeting_index::{AnswerKey, MeetingIndex};
 use universe_model::BuildEnd;
 
@@ -196,23 +195,21 @@ fn add_items<'a>(
 
 /// Adds the dependencies of Conflicts or of Breaks of a version of the package `own`. An item does not concern that package,
 /// which may provide the name.
-#[tactic(auto, unfolding(dep_fields::specs::Fields::field_of))]
 pub fn add_conflicts<'a>(
     index: &MeetingIndex<'_, 'a>,
     collected: &mut Collected,
     source: u32,
     own: u32,
-    value: &'a [u8],
+    field: SingleField<'a>,
     room: &mut Room,
 ) -> Result<(), BuildEnd>
     requires owners { collected.old.builder.owners ≡ owners_of index.now.versions }
     requires source { source < length index.now.versions }
     requires kept { AreRows (setting_of index.now collected.old) room.old.answers }
-    requires read { is_relation false value.now ≡ true }
-    ensures adds { Adds (of_conflicts (setting_of index.now collected.old) source own (single_groups_of value.now)) collected.old result collected.new }
+    ensures adds { Adds (of_conflicts (setting_of index.now collected.old) source own (single_groups field.entry)) collected.old result collected.new }
     ensures kept { OnOk result (AreRows (setting_of index.now collected.old) room.new.answers) }
 {
-    for group in SoundGroups::new(value, false) {
+    for group in field.groups() {
         add_items(index, collected, source, own, &group, room)?;
     }
     Ok(())

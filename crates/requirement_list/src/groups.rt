@@ -4,9 +4,8 @@ ghost use Rattle.std.specs.Prelude.{◌≡◌, ◌<◌, ◌≤◌, ◌∷◌, []
 ghost use Rattle.std.specs.List.{filter, list_all, list_any};
 ghost use Rattle.lists.specs.Sets.{has};
 ghost use Rattle.resolver_model.specs.Problems.{version_count};
+ghost use Rattle.dep_fields.specs.Checked.{alternatives_groups};
 ghost use Rattle.dep_fields.specs.Views.{group_items};
-ghost use Rattle.stanza.specs.Fields.{is_relation};
-ghost use Rattle.universe_model.specs.Versions.{groups_of};
 ghost use Rattle.universe_model.specs.Dependencies.{of_group, recommended, is_broken_now, of_recommends};
 ghost use Rattle.universe_model.specs.Limits.{most_groups};
 ghost use Rattle.requirement_list.specs.Settings.{owners_of, setting_of, AreTargets};
@@ -18,7 +17,7 @@ ghost use Rattle.universe_model.specs.Meeting.{meets_any};
 use crate::Indexes;
 use crate::collected::{Collected, Field};
 use crate::installed::is_installed;
-use dep_fields::{Group, SoundGroups};
+use dep_fields::{AlternativesField, Group};
 use meeting_index::MeetingIndex;
 use problem::Problem;
 use universe_model::BuildEnd;
@@ -55,20 +54,18 @@ fn add_group<'a>(
 }
 
 /// Adds the dependencies of Pre-Depends or of Depends. `targets` is room that is used again.
-#[tactic(auto, unfolding(dep_fields::specs::Fields::field_of))]
 pub fn add_groups<'a>(
     index: &MeetingIndex<'_, 'a>,
     collected: &mut Collected,
     source: u32,
-    value: &'a [u8],
+    field: AlternativesField<'a>,
     targets: &mut Vec<u32>,
 ) -> Result<(), BuildEnd>
     requires owners { collected.old.builder.owners ≡ owners_of index.now.versions }
     requires source { source < length index.now.versions }
-    requires read { is_relation true value.now ≡ true }
-    ensures { Adds (map (of_group (setting_of index.now collected.old) source) (groups_of value.now)) collected.old result collected.new }
+    ensures { Adds (map (of_group (setting_of index.now collected.old) source) (alternatives_groups field.entry)) collected.old result collected.new }
 {
-    for group in SoundGroups::new(value, true) {
+    for group in field.groups() {
         add_group(index, collected, source, &group, targets)?;
     }
     Ok(())
@@ -116,23 +113,21 @@ fn add_recommended<'a>(
 }
 
 /// Adds the dependencies of Recommends. Groups are counted from 1, also those that give no dependency.
-#[tactic(auto, unfolding(dep_fields::specs::Fields::field_of))]
 pub fn add_recommends<'a>(
     indexes: &Indexes<'_, '_, 'a>,
     collected: &mut Collected,
     source: u32,
-    value: &'a [u8],
+    field: AlternativesField<'a>,
     targets: &mut Vec<u32>,
 ) -> Result<(), BuildEnd>
     requires owners { collected.old.builder.owners ≡ owners_of indexes.now.all.versions }
     requires installed { HasInstalled collected.old.builder.starts indexes.now }
     requires source { source < length indexes.now.all.versions }
-    requires read { is_relation true value.now ≡ true }
-    requires few { length (groups_of value.now) ≤ most_groups }
-    ensures { Adds (of_recommends (setting_of indexes.now.all collected.old) source (groups_of value.now)) collected.old result collected.new }
+    requires few { length (alternatives_groups field) ≤ most_groups }
+    ensures { Adds (of_recommends (setting_of indexes.now.all collected.old) source (alternatives_groups field.entry)) collected.old result collected.new }
 {
     let mut place = 0;
-    for group in SoundGroups::new(value, true) {
+    for group in field.groups() {
         place += 1;
         add_recommended(indexes, collected, source, place, &group, targets)?;
     }

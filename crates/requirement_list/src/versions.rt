@@ -3,7 +3,8 @@
 ghost use Rattle.std.specs.Prelude.{◌≡◌, ◌<◌, ◌≤◌, true, IsTrue, Some, map, length, OnOk};
 ghost use Rattle.std.specs.List.{list_all};
 ghost use Rattle.problem.specs.Limits.{most_versions};
-ghost use Rattle.universe_model.specs.Versions.{groups_of, release_of};
+ghost use Rattle.dep_fields.specs.Checked.{alternatives_groups};
+ghost use Rattle.universe_model.specs.Versions.{release_of};
 ghost use Rattle.universe_model.specs.Dependencies.{of_release, of_version, requirements};
 ghost use Rattle.universe_model.specs.Limits.{most_groups, are_groups_few};
 ghost use Rattle.universe_parts.specs.Listed.{stanza_read, version_listed};
@@ -32,29 +33,29 @@ fn add_release<'a>(
     requires installed { HasInstalled collected.old.builder.starts indexes.now }
     requires kept { AreRows (setting_of indexes.now.all collected.old) room.old.answers }
     requires source { source < length indexes.now.all.versions }
-    requires few { length (groups_of read.now.stanza.recommends.now) ≤ most_groups }
+    requires few { length (alternatives_groups read.now.stanza.relations.recommends) ≤ most_groups }
     ensures adds { Adds (of_release (setting_of indexes.now.all collected.old) source own (Some (release_of (stanza_read read.now)))) collected.old result collected.new }
     ensures kept { OnOk result (AreRows (setting_of indexes.now.all collected.old) room.new.answers) }
 {
-    let stanza = &read.stanza;
+    let relations = &read.stanza.relations;
     let index = &indexes.all;
     add_groups(
         index,
         collected,
         source,
-        stanza.pre_depends,
+        relations.pre_depends,
         &mut room.targets,
     )?;
-    add_groups(index, collected, source, stanza.depends, &mut room.targets)?;
+    add_groups(index, collected, source, relations.depends, &mut room.targets)?;
     add_recommends(
         indexes,
         collected,
         source,
-        stanza.recommends,
+        relations.recommends,
         &mut room.targets,
     )?;
-    add_conflicts(index, collected, source, own, stanza.conflicts, room)?;
-    add_conflicts(index, collected, source, own, stanza.breaks, room)
+    add_conflicts(index, collected, source, own, relations.conflicts, room)?;
+    add_conflicts(index, collected, source, own, relations.breaks, room)
 }
 
 /// Adds the dependencies of a version. What is absent has none.

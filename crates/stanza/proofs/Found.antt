@@ -1,85 +1,184 @@
 -- What a pass over the fields of a paragraph finds.
-use Rattle.std.proofs.Common.{◌≡◌, ◌≢◌, ℕ, true, false, List, [], ◌∷◌, length, nat_eq, eqb, refl, ap, sym, ◌∙◌, cond, Some, None, codes}
+use Rattle.std.proofs.Common.{◌≡◌, ◌≢◌, ◌<◌, ℕ, Bool, true, false, List, [], ◌∷◌, length, get_or, set, nat_eq, eqb, refl, ap, sym, subst, ◌∙◌, cond, Some, None, codes, arith}
 use Rattle.std.specs.Prelude.{Option}
-use Rattle.std.specs.Option.{option_or}
+use Rattle.std.specs.Option.{option_or, is_some}
 use Rattle.std.specs.Char.{to_ascii_lowercase}
-use Rattle.std.specs.Str.{str_eq_ignore_ascii_case}
+use Rattle.std.specs.List.{filter, list_any, position_or_len}
+use Rattle.std.specs.Str.{bytes_eq, str_eq_ignore_ascii_case, str_to_ascii_lowercase}
 use Rattle.std.specs.Cmp.Lexicographic.{unequal}
-use Rattle.std.proofs.lemmas.Bool.{eqb-false}
-use Rattle.std.proofs.lemmas.List.{length-map}
-use Rattle.control_file.specs.Text.{FieldText, field_named}
+use Rattle.std.proofs.lemmas.Bool.{eqb-false, eqb-true}
+use Rattle.std.proofs.lemmas.List.Folds.{list_any_at}
+use Rattle.std.proofs.lemmas.Map.Views.{any-filter_same}
+use Rattle.std.proofs.lemmas.Slice.Eq.{bytes_eq-Decides}
+use Rattle.std.proofs.lemmas.List.{length-map, get_or-set_same, get_or-set_other}
+use Rattle.control_file.specs.Text.{FieldText, ParagraphText, field_named}
+use Rattle.control_file.specs.Fields.{field_text}
+use Rattle.control_file.specs.declared.Field.{Field}
+use Rattle.stanza.specs.declared.names.FieldName.{FieldName}
+use Rattle.stanza.specs.declared.names.FieldName.TheVariants.{Package, Status, Version, Architecture, Essential, PreDepends, Depends, Recommends, Conflicts, Breaks, Provides}
 use Rattle.stanza.specs.declared.slots.Slots.{Slots}
-use Rattle.stanza.specs.Found.{FoundText, found_text, slot_text, slot_behind, found_behind}
+use Rattle.stanza.specs.Fields.{field_in}
+use Rattle.stanza.specs.Names.{all_names, number, spelling, spells}
+use Rattle.stanza.specs.Found.{found_in, found_text, slot_of, slot_text, slot_behind}
 
 -- a name of another length is another name
 pub other_length : (name wanted : List ℕ) → length name ≢ length wanted → str_eq_ignore_ascii_case name wanted ≡ false
 other_length name wanted other = unequal nat_eq _ _ (λ same. other (sym (length-map name to_ascii_lowercase) ∙ same ∙ length-map wanted to_ascii_lowercase))
 
--- so a field leaves the slots of names of another length as they are
-pub unlike_slot : (wanted : List ℕ) (field : FieldText) (slot : Option FieldText) → length field.name ≢ length wanted → slot ≡ slot_behind wanted field slot
-unlike_slot wanted field slot differs = ap (λ b. cond b (option_or slot (Some field)) slot) (sym (other_length field.name wanted differs))
+-- ---- a text spells one name at most
 
-pub other_slot : (wanted : List ℕ) (field : FieldText) (len : ℕ) (slot : Option FieldText) → length field.name ≡ len → eqb len (length wanted) ≡ false → slot ≡ slot_behind wanted field slot
-other_slot wanted field len slot long other = unlike_slot wanted field slot (λ same. eqb-false len (length wanted) other (sym long ∙ same))
+abbrev name_of : ℕ → FieldName
+name_of place = get_or all_names place Provides
 
--- what is found behind all fields that are left
-abbrev pub found_left : FoundText → List FieldText → FoundText
-found_left found fields = record {
-  name = option_or found.name (field_named (codes "Package") fields);
-  status = option_or found.status (field_named (codes "Status") fields);
-  version = option_or found.version (field_named (codes "Version") fields);
-  architecture = option_or found.architecture (field_named (codes "Architecture") fields);
-  essential = option_or found.essential (field_named (codes "Essential") fields);
-  pre_depends = option_or found.pre_depends (field_named (codes "Pre-Depends") fields);
-  depends = option_or found.depends (field_named (codes "Depends") fields);
-  recommends = option_or found.recommends (field_named (codes "Recommends") fields);
-  conflicts = option_or found.conflicts (field_named (codes "Conflicts") fields);
-  breaks = option_or found.breaks (field_named (codes "Breaks") fields);
-  provides = option_or found.provides (field_named (codes "Provides") fields);
-}
+name_of-number : (name : FieldName) → name_of (number name) ≡ name
+name_of-number Package = refl
+name_of-number Status = refl
+name_of-number Version = refl
+name_of-number Architecture = refl
+name_of-number Essential = refl
+name_of-number PreDepends = refl
+name_of-number Depends = refl
+name_of-number Recommends = refl
+name_of-number Conflicts = refl
+name_of-number Breaks = refl
+name_of-number Provides = refl
 
-slot_step : (name : List ℕ) (field : FieldText) (slot : Option FieldText) (rest : List FieldText) → option_or (slot_behind name field slot) (field_named name rest) ≡ option_or slot (field_named name (field ∷ rest))
-slot_step name field None rest =
-    elim (str_eq_ignore_ascii_case field.name name) as (λ b. option_or (cond b (Some field) None) (field_named name rest) ≡ cond b (Some field) (field_named name rest)) [
+placed : (name : FieldName) → position_or_len (λ (n : FieldName). bytes_eq (str_to_ascii_lowercase (spelling n)) (str_to_ascii_lowercase (spelling name))) all_names ≡ number name
+placed Package = refl
+placed Status = refl
+placed Version = refl
+placed Architecture = refl
+placed Essential = refl
+placed PreDepends = refl
+placed Depends = refl
+placed Recommends = refl
+placed Conflicts = refl
+placed Breaks = refl
+placed Provides = refl
+
+one_name : (text : List ℕ) (a b : FieldName) → spells text a ≡ true → spells text b ≡ true → number a ≡ number b
+one_name text a b first second =
+    let lower : List ℕ → List ℕ = str_to_ascii_lowercase in
+    let is_a : lower text ≡ lower (spelling a) = (bytes_eq-Decides (lower text) (lower (spelling a))).0 first in
+    let is_b : lower text ≡ lower (spelling b) = (bytes_eq-Decides (lower text) (lower (spelling b))).0 second in
+    sym (placed a) ∙ ap (λ t. position_or_len (λ (n : FieldName). bytes_eq (lower (spelling n)) t) all_names) (sym is_a ∙ is_b) ∙ placed b
+
+-- a text that spells none of the names of its length spells none
+same_length : (text : List ℕ) (name : FieldName) → spells text name ≡ true → nat_eq (length (spelling name)) (length text) ≡ true
+same_length text name h = by (nat_eq (length (spelling name)) (length text)) refl
+  where
+    by : (b : Bool) → nat_eq (length (spelling name)) (length text) ≡ b → b ≡ true
+    by true e = refl
+    by false e =
+        let other = other_length text (spelling name) (λ same. eqb-false (length (spelling name)) (length text) e (sym same)) in
+        absurd (cc)
+
+number-within : (name : FieldName) → number name < length all_names
+number-within Package = omega arith
+number-within Status = omega arith
+number-within Version = omega arith
+number-within Architecture = omega arith
+number-within Essential = omega arith
+number-within PreDepends = omega arith
+number-within Depends = omega arith
+number-within Recommends = omega arith
+number-within Conflicts = omega arith
+number-within Breaks = omega arith
+number-within Provides = omega arith
+
+abbrev pub of_length : ℕ → List FieldName
+of_length len = filter (λ name. nat_eq (length (spelling name)) len) all_names
+
+pub none_spelled : (text : List ℕ) → list_any (spells text) (of_length (length text)) ≡ false → (name : FieldName) → spells text name ≡ false
+none_spelled text none name = by (spells text name) refl
+  where
+    by : (b : Bool) → spells text name ≡ b → b ≡ false
+    by true e =
+        let any : list_any (spells text) (of_length (length text)) ≡ true =
+        any-filter_same (spells text) (λ (n : FieldName). nat_eq (length (spelling n)) (length text)) true (same_length text) all_names
+        ∙ list_any_at (spells text) all_names (number name) Provides (number-within name) (ap (spells text) (name_of-number name) ∙ e) in
+        absurd (cc)
+    by false e = refl
+
+-- so a field of a name leaves those of other names as they are
+pub other_name : (field : FieldText) (found name : FieldName) (slot : Option FieldText) → spells field.name found ≡ true → number name ≢ number found
+    → slot_behind (spelling name) field slot ≡ slot
+other_name field found name slot is_found other = by (spells field.name name) (λ h. other (one_name field.name name found h is_found))
+  where
+    by : (b : Bool) → b ≢ true → cond b (option_or slot (Some field)) slot ≡ slot
+    by true h = absurd (h refl)
+    by false h = refl
+
+-- ---- one field more
+
+-- the slot of a name, behind a field of the name `found`
+abbrev Behind : List (Option Field) → Field → FieldName → Option FieldText → Type 0
+Behind slots field name now = now ≡ slot_behind (spelling name) (field_text field) (slot_text (get_or slots (number name) None))
+
+-- a fact of a name holds of the name that is found, and of the others
+cases : (P : FieldName → Type 0) (found : FieldName) → P found → ((name : FieldName) → number name ≢ number found → P name) → (name : FieldName) → P name
+cases P found at_found at_others name = by (eqb (number name) (number found)) refl
+  where
+    by : (b : Bool) → eqb (number name) (number found) ≡ b → P name
+    by true e =
+        subst P (sym (name_of-number found) ∙ ap name_of (sym (eqb-true (number name) (number found) e)) ∙ name_of-number name) at_found
+    by false e = at_others name (eqb-false (number name) (number found) e)
+
+no_slot : (slot : Option Field) (old : Option FieldText) → slot_text slot ≡ old → is_some slot ≡ false → old ≡ None
+no_slot None old same h = sym same
+no_slot (Some first) old same h = absurd (cc)
+
+-- a field of a name that had none is kept
+pub first_kept : (slots : List (Option Field)) (field : Field) (found : FieldName) (slot : Option Field) → number found < length slots → spells (field_text field).name found ≡ true
+    → slot_text slot ≡ slot_text (get_or slots (number found) None) → is_some slot ≡ false
+    → (name : FieldName) → Behind slots field name (slot_text (get_or (set slots (number found) (Some field)) (number name) None))
+first_kept slots field found slot inside is_found same free =
+    let text : FieldText = field_text field in
+    let old : FieldName → Option FieldText = λ name. slot_text (get_or slots (number name) None) in
+    cases (λ name. Behind slots field name (slot_text (get_or (set slots (number found) (Some field)) (number name) None))) found
+    (ap slot_text (get_or-set_same slots (number found) (Some field) None inside)
+    ∙ sym (ap (λ b. cond b (option_or (old found) (Some text)) (old found)) is_found ∙ ap (λ s. option_or s (Some text)) (no_slot slot (old found) same free)))
+    (λ name other. ap slot_text (get_or-set_other slots (number found) (number name) (Some field) None other) ∙ sym (other_name text found name (old name) is_found other))
+
+-- ---- a whole pass
+
+-- what is found of a name behind all fields that are left
+abbrev pub found_left : Option FieldText → FieldName → List FieldText → Option FieldText
+found_left slot name fields = option_or slot (field_named (spelling name) fields)
+
+pub found_step : (name : FieldName) (field : FieldText) (slot : Option FieldText) (rest : List FieldText)
+    → found_left (slot_behind (spelling name) field slot) name rest ≡ found_left slot name (field ∷ rest)
+found_step name field None rest =
+    elim (str_eq_ignore_ascii_case field.name (spelling name)) as (λ b. option_or (cond b (Some field) None) (field_named (spelling name) rest) ≡ cond b (Some field) (field_named (spelling name) rest)) [
       | true ↦ refl
       | false ↦ refl
     ]
-slot_step name field (Some first) rest =
-    elim (str_eq_ignore_ascii_case field.name name) as (λ b. option_or (cond b (Some first) (Some first)) (field_named name rest) ≡ Some first) [
+found_step name field (Some first) rest =
+    elim (str_eq_ignore_ascii_case field.name (spelling name)) as (λ b. option_or (cond b (Some first) (Some first)) (field_named (spelling name) rest) ≡ Some first) [
       | true ↦ refl
       | false ↦ refl
     ]
 
-slot_end : (slot : Option FieldText) → option_or slot None ≡ slot
+slot_end : (slot : Option FieldText) → slot ≡ option_or slot None
 slot_end None = refl
 slot_end (Some first) = refl
 
-pub found_step : (field : FieldText) (found : FoundText) (rest : List FieldText) → found_left (found_behind field found) rest ≡ found_left found (field ∷ rest)
-found_step field found rest = λ i. record {
-  name = slot_step (codes "Package") field found.name rest i;
-  status = slot_step (codes "Status") field found.status rest i;
-  version = slot_step (codes "Version") field found.version rest i;
-  architecture = slot_step (codes "Architecture") field found.architecture rest i;
-  essential = slot_step (codes "Essential") field found.essential rest i;
-  pre_depends = slot_step (codes "Pre-Depends") field found.pre_depends rest i;
-  depends = slot_step (codes "Depends") field found.depends rest i;
-  recommends = slot_step (codes "Recommends") field found.recommends rest i;
-  conflicts = slot_step (codes "Conflicts") field found.conflicts rest i;
-  breaks = slot_step (codes "Breaks") field found.breaks rest i;
-  provides = slot_step (codes "Provides") field found.provides rest i;
-}
+-- what is true of each name is true of the list of all
+pub each_found : (slots : Slots) (p : ParagraphText) → ((name : FieldName) → found_left (slot_of slots name) name [] ≡ field_in p (spelling name)) → found_text slots ≡ found_in p
+each_found slots p h =
+    let f : (name : FieldName) → slot_of slots name ≡ field_in p (spelling name) = λ name. slot_end (slot_of slots name) ∙ h name in
+    λ i. f Package i ∷ f Status i ∷ f Version i ∷ f Architecture i ∷ f Essential i ∷ f PreDepends i ∷ f Depends i ∷ f Recommends i ∷ f Conflicts i ∷ f Breaks i ∷ f Provides i ∷ []
 
-pub found_end : (slots : Slots) → found_left (found_text slots) [] ≡ found_text slots
-found_end slots = λ i. record {
-  name = slot_end (slot_text slots.name) i;
-  status = slot_end (slot_text slots.status) i;
-  version = slot_end (slot_text slots.version) i;
-  architecture = slot_end (slot_text slots.architecture) i;
-  essential = slot_end (slot_text slots.essential) i;
-  pre_depends = slot_end (slot_text slots.pre_depends) i;
-  depends = slot_end (slot_text slots.depends) i;
-  recommends = slot_end (slot_text slots.recommends) i;
-  conflicts = slot_end (slot_text slots.conflicts) i;
-  breaks = slot_end (slot_text slots.breaks) i;
-  provides = slot_end (slot_text slots.provides) i;
-}
+-- and the other way round
+pub one_found : (slots : Slots) (p : ParagraphText) → found_text slots ≡ found_in p → (name : FieldName) → slot_of slots name ≡ field_in p (spelling name)
+one_found slots p h Package = ap (λ xs. get_or xs 0 None) h
+one_found slots p h Status = ap (λ xs. get_or xs 1 None) h
+one_found slots p h Version = ap (λ xs. get_or xs 2 None) h
+one_found slots p h Architecture = ap (λ xs. get_or xs 3 None) h
+one_found slots p h Essential = ap (λ xs. get_or xs 4 None) h
+one_found slots p h PreDepends = ap (λ xs. get_or xs 5 None) h
+one_found slots p h Depends = ap (λ xs. get_or xs 6 None) h
+one_found slots p h Recommends = ap (λ xs. get_or xs 7 None) h
+one_found slots p h Conflicts = ap (λ xs. get_or xs 8 None) h
+one_found slots p h Breaks = ap (λ xs. get_or xs 9 None) h
+one_found slots p h Provides = ap (λ xs. get_or xs 10 None) h

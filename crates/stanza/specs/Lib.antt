@@ -1,4 +1,5 @@
 pub mod Fields
+pub mod Names
 pub mod Found
 pub mod Stanzas
 pub mod Statuses

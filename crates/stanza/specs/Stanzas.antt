@@ -4,13 +4,23 @@ use Rattle.std.specs.Option.{option_or}
 use Rattle.control_file.specs.Text.{FieldText, ParagraphText}
 use Rattle.deb_version.specs.Versions.{is_version}
 use Rattle.dep_fields.specs.Tokens.{is_name}
-use Rattle.stanza.specs.Fields.{field_in, value_in, text_in, is_relation, is_provides}
+use Rattle.dep_fields.specs.Provides.{is_relation, is_provides}
+use Rattle.stanza.specs.Fields.{field_in, value_in, text_in}
 use Rattle.stanza.specs.Statuses.{StatusText, status_of, is_same}
 use Rattle.stanza.specs.declared.StanzaFault.{StanzaFault}
 use Rattle.stanza.specs.declared.StanzaKind.{StanzaKind}
 use Rattle.stanza.specs.declared.StanzaKind.TheVariants.{NoPackage, BadPackage, BadStatus, NoVersion, BadVersion, BadRelation}
 
--- What a stanza says. The version is its text, and the relationship fields are their values, empty where they are missing.
+-- The values of the relationship fields, empty where they are missing.
+pub record RelationTexts : Type 0 where
+  pub pre_depends : List ℕ
+  pub depends : List ℕ
+  pub recommends : List ℕ
+  pub conflicts : List ℕ
+  pub breaks : List ℕ
+  pub provides : List ℕ
+
+-- What a stanza says. The version is its text.
 pub record StanzaText : Type 0 where
   pub name : List ℕ
   pub arch : Option (List ℕ)
@@ -19,12 +29,7 @@ pub record StanzaText : Type 0 where
   pub hold : Bool
   pub essential : Bool
   pub version : Option (List ℕ)
-  pub pre_depends : List ℕ
-  pub depends : List ℕ
-  pub recommends : List ℕ
-  pub conflicts : List ℕ
-  pub breaks : List ℕ
-  pub provides : List ℕ
+  pub relations : RelationTexts
 
 -- ---- faults: of a missing field at the paragraph's line, and of a faulty value at the field's line
 
@@ -71,19 +76,8 @@ content_fault p = option_or (version_fault p) (relation_fault p)
 
 -- ---- what is said
 
--- what is read of a package of which a version is there
-pub record ContentText : Type 0 where
-  pub version : Option (List ℕ)
-  pub pre_depends : List ℕ
-  pub depends : List ℕ
-  pub recommends : List ℕ
-  pub conflicts : List ℕ
-  pub breaks : List ℕ
-  pub provides : List ℕ
-
-abbrev pub content_in : ParagraphText → ContentText
-content_in p = record {
-  version = value_in p (codes "Version");
+abbrev pub relations_in : ParagraphText → RelationTexts
+relations_in p = record {
   pre_depends = text_in p (codes "Pre-Depends");
   depends = text_in p (codes "Depends");
   recommends = text_in p (codes "Recommends");
@@ -92,30 +86,26 @@ content_in p = record {
   provides = text_in p (codes "Provides");
 }
 
--- of a package of which none is there
-abbrev pub no_content : ContentText
-no_content = record { version = None; pre_depends = []; depends = []; recommends = []; conflicts = []; breaks = []; provides = [] }
+abbrev pub no_relations : RelationTexts
+no_relations = record { pre_depends = []; depends = []; recommends = []; conflicts = []; breaks = []; provides = [] }
 
-abbrev pub stanza_with : ParagraphText → List ℕ → StatusText → ContentText → StanzaText
-stanza_with p name status content = record {
+abbrev pub stanza_with : ParagraphText → List ℕ → StatusText → Option (List ℕ) → RelationTexts → StanzaText
+stanza_with p name status version relations = record {
   name = name;
   arch = value_in p (codes "Architecture");
   line = p.line;
   present = status.present;
   hold = status.hold;
   essential = is_same (text_in p (codes "Essential")) (codes "yes");
-  version = content.version;
-  pre_depends = content.pre_depends;
-  depends = content.depends;
-  recommends = content.recommends;
-  conflicts = content.conflicts;
-  breaks = content.breaks;
-  provides = content.provides;
+  version = version;
+  relations = relations;
 }
 
 -- Of a package of which no version is there, neither the version nor the relationship fields are read.
 abbrev pub stanza_text : ParagraphText → StatusText → StanzaText
-stanza_text p status = stanza_with p (text_in p (codes "Package")) status (cond status.present (content_in p) no_content)
+stanza_text p status =
+    let said : Option (List ℕ) → RelationTexts → StanzaText = stanza_with p (text_in p (codes "Package")) status in
+    cond status.present (said (value_in p (codes "Version")) (relations_in p)) (said None no_relations)
 
 -- a stanza, unless there is a fault
 abbrev pub unless_fault : Option StanzaFault → StanzaText → Result StanzaText StanzaFault

@@ -1,25 +1,23 @@
 //! Typed stanzas: what a paragraph of a Debian packages file or of dpkg's status file says of a package.
 #![tactic(auto)]
 
-ghost use Rattle.std.specs.Prelude.{◌≡◌, true, false, is_some};
-ghost use Rattle.stanza.specs.Fields.{is_relation, is_provides};
+ghost use Rattle.std.specs.Prelude.{◌≡◌, is_some};
 
 use control_file::Paragraph;
 use deb_version::Version;
 
-mod contents;
 mod fields;
+mod names;
 mod relations;
 mod slots;
 mod statuses;
 
-use contents::Content;
 use fields::FoundFields;
+pub use relations::Relations;
 use statuses::Status;
 
-/// What a stanza says of a package, lent from the text. A relationship field that is missing is empty, and all of
-/// them are read without fault. A package of which no version is there (`present` is false) has no version and no
-/// relationship fields.
+/// What a stanza says of a package, lent from the text. A package of which no version is there (`present` is false)
+/// has no version and no relationship fields.
 #[derive(Clone, Copy, Debug)]
 pub struct Stanza<'a> {
     pub name: &'a [u8],
@@ -31,19 +29,8 @@ pub struct Stanza<'a> {
     pub hold: bool,
     pub essential: bool,
     pub version: Option<Version<'a>>,
-    pub pre_depends: &'a [u8],
-    pub depends: &'a [u8],
-    pub recommends: &'a [u8],
-    pub conflicts: &'a [u8],
-    pub breaks: &'a [u8],
-    pub provides: &'a [u8],
+    pub relations: Relations<'a>,
     ghost version_there: { is_some version ≡ present },
-    ghost pre_depends_read: { is_relation true pre_depends.now ≡ true },
-    ghost depends_read: { is_relation true depends.now ≡ true },
-    ghost recommends_read: { is_relation true recommends.now ≡ true },
-    ghost conflicts_read: { is_relation false conflicts.now ≡ true },
-    ghost breaks_read: { is_relation false breaks.now ≡ true },
-    ghost provides_read: { is_provides provides.now ≡ true },
 }
 
 /// Why a paragraph is no stanza.
@@ -72,7 +59,7 @@ pub struct StanzaFault {
 
 impl<'a> Stanza<'a> {
     ghost use Rattle.stanza.specs.Stanzas.{stanza_with, package_stanza, status_stanza};
-    ghost use Rattle.stanza.specs.Views.{meaning, outcome, status_text, content_text};
+    ghost use Rattle.stanza.specs.Views.{meaning, outcome, relation_texts, status_text, version_text};
 
     /// The stanza of a paragraph of a packages file (Debian Policy 5.3), with the first fault in the order of
     /// `StanzaKind`, and within `BadRelation` in the order Pre-Depends, Depends, Recommends, Conflicts, Breaks,
@@ -82,12 +69,13 @@ impl<'a> Stanza<'a> {
     {
         let found = FoundFields::of(paragraph);
         let name = found.name()?;
-        let content = Content::read(&found)?;
+        let version = found.version()?;
+        let relations = Relations::read(&found)?;
         let status = Status {
             hold: false,
             present: true,
         };
-        Ok(Stanza::assemble(&found, name, status, content))
+        Ok(Stanza::assemble(&found, name, status, Some(version), relations))
     }
 
     /// The stanza of a paragraph of dpkg's status file, with the first fault in the order of `StanzaKind`, as
@@ -99,12 +87,13 @@ impl<'a> Stanza<'a> {
         let found = FoundFields::of(paragraph);
         let name = found.name()?;
         let status = found.status()?;
-        let content = if status.present {
-            Content::read(&found)?
-        } else {
-            Content::nothing()
-        };
-        Ok(Stanza::assemble(&found, name, status, content))
+        if !status.present {
+            let none = Relations::missing();
+            return Ok(Stanza::assemble(&found, name, status, None, none));
+        }
+        let version = found.version()?;
+        let relations = Relations::read(&found)?;
+        Ok(Stanza::assemble(&found, name, status, Some(version), relations))
     }
 
     // The stanza of what was read.
@@ -112,10 +101,11 @@ impl<'a> Stanza<'a> {
         found: &FoundFields<'_, 'a>,
         name: &'a [u8],
         status: Status,
-        content: Content<'a>,
+        version: Option<Version<'a>>,
+        relations: Relations<'a>,
     ) -> Stanza<'a>
-        requires { is_some content.version ≡ status.present }
-        ensures { meaning result ≡ stanza_with found.now.paragraph.now name.now (status_text status) (content_text content.entry) }
+        requires { is_some version ≡ status.present }
+        ensures { meaning result ≡ stanza_with found.now.paragraph.now name.now (status_text status) (version_text version.entry) (relation_texts relations.entry) }
     {
         Stanza {
             name,
@@ -124,13 +114,8 @@ impl<'a> Stanza<'a> {
             present: status.present,
             hold: status.hold,
             essential: found.essential(),
-            version: content.version,
-            pre_depends: content.pre_depends,
-            depends: content.depends,
-            recommends: content.recommends,
-            conflicts: content.conflicts,
-            breaks: content.breaks,
-            provides: content.provides,
+            version,
+            relations,
         }
     }
 }

@@ -1,56 +1,54 @@
-// The tests of relationship fields.
+// The relationship fields of a stanza.
 
 ghost use Rattle.std.specs.Prelude.{◌≡◌};
-ghost use Rattle.std.specs.List.{list_all};
-ghost use Rattle.dep_fields.specs.Relationships.{meaning};
-ghost use Rattle.dep_fields.specs.Views.{group_items, items_left};
-ghost use Rattle.stanza.specs.Fields.{is_relation, is_exact, is_provides};
 
-use dep_fields::{Group, Groups, Item, Op};
+use crate::StanzaFault;
+use crate::fields::FoundFields;
+use crate::names::FieldName;
+use dep_fields::{AlternativesField, ProvidesField, SingleField};
 
-/// Whether a value is a relationship field without fault.
-pub fn is_relation(value: &[u8], alternatives: bool) -> bool
-    ensures { result ≡ is_relation alternatives value.now }
-{
-    let mut groups = Groups::new(value, alternatives);
-    loop {
-        match groups.next() {
-            Ok(Some(_)) => {}
-            Ok(None) => return true,
-            Err(_) => return false,
+/// The relationship fields of a stanza, each without a fault by its own rules (Debian Policy 7.1 and 7.5). A field that
+/// is missing has no groups.
+#[derive(Clone, Copy, Debug)]
+pub struct Relations<'a> {
+    pub pre_depends: AlternativesField<'a>,
+    pub depends: AlternativesField<'a>,
+    pub recommends: AlternativesField<'a>,
+    pub conflicts: SingleField<'a>,
+    pub breaks: SingleField<'a>,
+    pub provides: ProvidesField<'a>,
+}
+
+impl<'a> Relations<'a> {
+    ghost use Rattle.std.specs.Prelude.{Some, None, MatchResult};
+    ghost use Rattle.stanza.specs.Stanzas.{relation_fault, relations_in, no_relations};
+    ghost use Rattle.stanza.specs.Views.{relation_texts};
+
+    /// Those of a stanza that has none.
+    pub fn missing() -> Relations<'a>
+        ensures { relation_texts result ≡ no_relations }
+    {
+        Relations {
+            pre_depends: AlternativesField::missing(),
+            depends: AlternativesField::missing(),
+            recommends: AlternativesField::missing(),
+            conflicts: SingleField::missing(),
+            breaks: SingleField::missing(),
+            provides: ProvidesField::missing(),
         }
     }
-}
 
-/// Whether a value is a relationship field without fault, without alternatives and with no operator but `=`.
-pub fn is_provides(value: &[u8]) -> bool
-    ensures { result ≡ is_provides value.now }
-{
-    let mut groups = Groups::new(value, false);
-    loop {
-        match groups.next() {
-            Ok(Some(group)) => {
-                if !is_exact_group(&group) {
-                    return false;
-                }
-            }
-            Ok(None) => return true,
-            Err(_) => return false,
-        }
-    }
-}
-
-fn is_exact_group(group: &Group<'_>) -> bool
-    ensures { result ≡ list_all is_exact (group_items group.now) }
-{
-    group.items().all(|item| is_exact(&item))
-}
-
-fn is_exact(item: &Item<'_>) -> bool
-    ensures { result ≡ is_exact (meaning item.now) }
-{
-    match item.rel {
-        None => true,
-        Some((op, _)) => op == Op::Equal,
+    /// Reads them in this order, up to the first fault.
+    pub fn read(found: &FoundFields<'_, 'a>) -> Result<Relations<'a>, StanzaFault>
+        ensures { MatchResult result (λ relations. (relation_fault found.now.paragraph.now ≡ None) × (relation_texts relations ≡ relations_in found.now.paragraph.now)) (λ fault. relation_fault found.now.paragraph.now ≡ Some fault) }
+    {
+        Ok(Relations {
+            pre_depends: found.alternatives(FieldName::PreDepends)?,
+            depends: found.alternatives(FieldName::Depends)?,
+            recommends: found.alternatives(FieldName::Recommends)?,
+            conflicts: found.single(FieldName::Conflicts)?,
+            breaks: found.single(FieldName::Breaks)?,
+            provides: found.provides()?,
+        })
     }
 }

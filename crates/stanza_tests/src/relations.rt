@@ -1,7 +1,6 @@
-ghost use Rattle.std.specs.Prelude.{◌≡◌, IsTrue, None};
-ghost use Rattle.dep_fields.specs.Fields.{field_of};
-
-use dep_fields::{Groups, Op, RelFault, RelKind, SoundGroups, is_package_name};
+use dep_fields::{
+    AlternativesField, Groups, Op, ProvidesField, RelFault, RelKind, SingleField, is_package_name,
+};
 use std::cmp::Ordering;
 use std::test::Fail;
 
@@ -27,33 +26,50 @@ fn items_of_a_group(rt: HostRuntime) -> Result<(), Fail> {
     Ok(())
 }
 
-// Whether a value has no fault.
-fn is_sound(value: &[u8], alternatives: bool) -> bool
-    ensures { IsTrue result → (field_of alternatives value.now).fault ≡ None }
-{
-    let mut groups = Groups::new(value, alternatives);
-    loop {
-        match groups.next() {
-            Ok(Some(_)) => {}
-            Ok(None) => return true,
-            Err(_) => return false,
-        }
-    }
-}
-
 // How many items the first group of a value without fault has.
 fn first_len(value: &[u8]) -> Option<usize> {
-    if !is_sound(value, true) {
-        return None;
-    }
-    let mut groups = SoundGroups::new(value, true);
-    let group = groups.next()?;
+    let field = AlternativesField::read(value).ok()?;
+    let group = field.groups().next()?;
     Some(group.len())
 }
 
 #[test]
-fn groups_of_a_sound_field(rt: HostRuntime) {
+fn a_field_with_alternatives(rt: HostRuntime) {
     assert_eq!(rt; first_len(b"newlib | oldtool"), Some(2));
+    assert_eq!(rt; first_len(b"newlib |"), None);
+}
+
+// How many items the first group of a value without fault and without alternatives has.
+fn first_len_of_single(value: &[u8]) -> Option<usize> {
+    let field = SingleField::read(value).ok()?;
+    let group = field.groups().next()?;
+    Some(group.len())
+}
+
+#[test]
+fn a_field_without_alternatives(rt: HostRuntime) {
+    assert_eq!(rt; first_len_of_single(b"newlib (<< 2), oldtool"), Some(1));
+    assert_eq!(rt; first_len_of_single(b"newlib | oldtool"), None);
+}
+
+// How many items the first group of a value of Provides has.
+fn first_len_of_provides(value: &[u8]) -> Option<usize> {
+    let field = ProvidesField::read(value)?;
+    let group = field.groups().next()?;
+    Some(group.len())
+}
+
+#[test]
+fn a_field_of_provides(rt: HostRuntime) {
+    assert_eq!(rt; first_len_of_provides(b"newlib (= 2), oldtool"), Some(1));
+    assert_eq!(rt; first_len_of_provides(b"newlib (>= 2)"), None);
+}
+
+#[test]
+fn fields_that_are_missing(rt: HostRuntime) {
+    assert!(rt; AlternativesField::missing().value().is_empty());
+    assert!(rt; SingleField::missing().value().is_empty());
+    assert!(rt; ProvidesField::missing().value().is_empty());
 }
 
 #[test]

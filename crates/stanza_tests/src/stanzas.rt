@@ -13,7 +13,7 @@ fn a_stanza_of_a_status_file(rt: HostRuntime) -> Result<(), Fail> {
         return Err(Fail::new("no stanza"));
     };
     assert!(rt; stanza.name == b"a".as_slice() && stanza.present && stanza.hold);
-    assert_eq!(rt; stanza.depends, b"b | c".as_slice());
+    assert_eq!(rt; stanza.relations.depends.value(), b"b | c".as_slice());
     Ok(())
 }
 

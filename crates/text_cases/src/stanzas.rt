@@ -31,12 +31,13 @@ fn print_stanza(rt: &impl Print, stanza: &Stanza<'_>) -> io::Result<()> {
         print!(rt; " essential")?;
     }
     print_version(rt, stanza)?;
-    print_relation(rt, "Pre-Depends", stanza.pre_depends)?;
-    print_relation(rt, "Depends", stanza.depends)?;
-    print_relation(rt, "Recommends", stanza.recommends)?;
-    print_relation(rt, "Conflicts", stanza.conflicts)?;
-    print_relation(rt, "Breaks", stanza.breaks)?;
-    print_relation(rt, "Provides", stanza.provides)
+    let relations = &stanza.relations;
+    print_relation(rt, "Pre-Depends", relations.pre_depends.value())?;
+    print_relation(rt, "Depends", relations.depends.value())?;
+    print_relation(rt, "Recommends", relations.recommends.value())?;
+    print_relation(rt, "Conflicts", relations.conflicts.value())?;
+    print_relation(rt, "Breaks", relations.breaks.value())?;
+    print_relation(rt, "Provides", relations.provides.value())
 }
 
 // Prints what the paragraphs of a text say of packages, or their faults.

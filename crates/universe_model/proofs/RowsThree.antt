@@ -6,6 +6,7 @@ use Rattle.dep_fields.specs.Fields.{field_of}
 use Rattle.dep_fields.specs.Relationships.{relationship_of, relationship_at, rel_at, bound_at}
 use Rattle.dep_fields.specs.Tokens.{name_at, version_at, arch_at, op_at, close_at}
 use Rattle.resolver_model.specs.Problems.{Problem, choices}
+use Rattle.stanza.specs.Stanzas.{no_relations}
 use Rattle.universe_model.specs.Reading.{Stanzas}
 use Rattle.universe_model.specs.Universes.{Universe, universe_of, problem_of, problem_from, is_conflict}
 use Rattle.universe_model.specs.Tokens.{token, choice_of}
@@ -15,10 +16,10 @@ use Rattle.universe_model.proofs.Samples.{sample, stanzas, amd64}
 -- a 1, which needs b, b 1 and c 1 are installed; a 2 needs b from 2 on, and b 3 conflicts with c
 abbrev three : Stanzas
 three = stanzas
-    (record (sample (codes "a") (codes "1")) { depends = codes "b" } ∷ sample (codes "b") (codes "1") ∷ sample (codes "c") (codes "1") ∷ [])
-    (record (sample (codes "a") (codes "2")) { depends = codes "b (>= 2)" }
+    (record (sample (codes "a") (codes "1")) { relations = record no_relations { depends = codes "b" } } ∷ sample (codes "b") (codes "1") ∷ sample (codes "c") (codes "1") ∷ [])
+    (record (sample (codes "a") (codes "2")) { relations = record no_relations { depends = codes "b (>= 2)" } }
     ∷ sample (codes "b") (codes "2")
-    ∷ record (sample (codes "b") (codes "3")) { conflicts = codes "c" } ∷ [])
+    ∷ record (sample (codes "b") (codes "3")) { relations = record no_relations { conflicts = codes "c" } } ∷ [])
 
 abbrev three_universe : Universe
 three_universe = universe_of amd64 three

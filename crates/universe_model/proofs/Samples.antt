@@ -1,6 +1,6 @@
 -- Stanzas for the worked examples.
 use Rattle.std.specs.Prelude.{ℕ, true, false, List, [], map, Some, codes}
-use Rattle.stanza.specs.Stanzas.{StanzaText}
+use Rattle.stanza.specs.Stanzas.{StanzaText, no_relations}
 use Rattle.universe_model.specs.Reading.{ReadStanza, Stanzas}
 
 abbrev pub amd64 : List ℕ
@@ -16,12 +16,7 @@ sample name version = record {
   hold = false;
   essential = false;
   version = Some version;
-  pre_depends = [];
-  depends = [];
-  recommends = [];
-  conflicts = [];
-  breaks = [];
-  provides = [];
+  relations = no_relations;
 }
 
 abbrev pub alone : StanzaText → ReadStanza

@@ -42,12 +42,12 @@ release_of read = record {
   text = version_text read;
   parts = parts (version_text read);
   essential = read.stanza.essential;
-  pre_depends = groups_of read.stanza.pre_depends;
-  depends = groups_of read.stanza.depends;
-  recommends = groups_of read.stanza.recommends;
-  conflicts = single_groups_of read.stanza.conflicts;
-  breaks = single_groups_of read.stanza.breaks;
-  provides = single_groups_of read.stanza.provides;
+  pre_depends = groups_of read.stanza.relations.pre_depends;
+  depends = groups_of read.stanza.relations.depends;
+  recommends = groups_of read.stanza.relations.recommends;
+  conflicts = single_groups_of read.stanza.relations.conflicts;
+  breaks = single_groups_of read.stanza.relations.breaks;
+  provides = single_groups_of read.stanza.relations.provides;
   paragraph = read.paragraph;
 }
 

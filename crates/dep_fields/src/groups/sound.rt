@@ -6,7 +6,7 @@ ghost use Rattle.dep_fields.specs.Fields.{field_in, spans_in, pieces, comma};
 use super::cuts::{count_parts, next_span};
 use super::{Group, Span};
 
-/// The groups of a relationship field without a fault, in order. Finding a group reads none of its
+/// The groups of a field that was read without a fault, in order. Finding a group reads none of its
 /// items: each is read only by `Group::items`.
 #[derive(Clone, Copy, Debug)]
 pub struct SoundGroups<'a> {
@@ -21,10 +21,9 @@ impl<'a> SoundGroups<'a> {
     ghost use Rattle.dep_fields.specs.Fields.{field_of, first_fault, items_of, bar};
     ghost use Rattle.dep_fields.specs.Views.{sound_left, group_items};
 
-    /// A reader of a field's value (Debian Policy 7.1) in which `Groups` finds no fault.
-    /// `alternatives` says whether a group may have several items, separated by `|`.
+    // A reader of a value in which `Groups` finds no fault.
     #[tactic(auto, unfolding(crate::specs::Fields::field_of))]
-    pub fn new(value: &'a [u8], alternatives: bool) -> SoundGroups<'a>
+    pub(crate) fn new(value: &'a [u8], alternatives: bool) -> SoundGroups<'a>
         requires { (field_of alternatives value.now).fault ≡ None }
         ensures { sound_left result ≡ (field_of alternatives value.now).groups }
     {

@@ -1,9 +1,9 @@
 use Rattle.std.proofs.Common.{[], ◌∷◌, ◌+◌, not}
 use Rattle.std.specs.List.{filter}
 use Rattle.std.proofs.lemmas.Result.{err_from_is_err_and}
+use Rattle.dep_fields.specs.Checked.{alternatives_groups}
 use Rattle.dep_fields.specs.Views.{sound_left, group_items}
 use Rattle.universe_model.specs.Lists.{map_from}
-use Rattle.universe_model.specs.Versions.{groups_of}
 use Rattle.universe_model.specs.Dependencies.{Requirement, Setting, recommended, of_recommends, is_broken_now}
 use Rattle.requirement_list.specs.Settings.{setting_of}
 use Rattle.requirement_list.proofs.Collecting.{ended_more, ended_same, filter-front}
@@ -21,4 +21,4 @@ returns-in_err-add_recommended c =
     let counted = λ (t : Setting). filter (λ r. not (is_broken_now t r)) (recommended t c.args.source (c.loop-group.place + 1) (group_items c.in-Some.group) ∷ []) in
     let ended = ended_same c.args.indexes.now.all c.args.collected.now c.loop-group.collected counted _ c.loop-group.invariant.come.starts c.in_err-add_recommended.ensures in
     let p = err_from_is_err_and c.from_residual.result c.from_residual.ensures.1 in
-    rw (p.1, p.2) (ended_more (of_recommends s c.args.source (groups_of c.args.value.now)) (filter counts (first ∷ [])) (filter counts left) c.args.collected.now c.loop-group.collected _ split ended)
+    rw (p.1, p.2) (ended_more (of_recommends s c.args.source (alternatives_groups c.args.field)) (filter counts (first ∷ [])) (filter counts left) c.args.collected.now c.loop-group.collected _ split ended)

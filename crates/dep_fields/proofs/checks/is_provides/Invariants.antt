@@ -1,8 +1,8 @@
 use Rattle.std.proofs.Common.{◌≡◌, false, length}
 use Rattle.dep_fields.specs.Fields.{field_of}
 use Rattle.dep_fields.specs.Views.{field_left}
-use Rattle.stanza.proofs.Provided.{is_provided}
-use Rattle.stanza.proofs.relations.is_provides.Given as goal
+use Rattle.dep_fields.proofs.Provided.{is_provided}
+use Rattle.dep_fields.proofs.checks.is_provides.Given as goal
 
 -- what is left is to pass as the whole field is
 abbrev pub invariant-loop-group : goal.invariant-loop-group
