@@ -11,7 +11,7 @@ use Rattle.dep_fields.specs.declared.RelKind.{RelKind}
 use Rattle.dep_fields.specs.declared.RelKind.TheVariants.{BadItem, Restriction, Alternative}
 use Rattle.dep_fields.specs.declared.RelFault.{RelFault}
 use Rattle.dep_fields.specs.Relationships.{Relationship, relationship_at, relationship_of, ended}
-use Rattle.dep_fields.specs.Fields.{Field, pieces, comma, bar, is_nil, reads, items_in, items_of, is_empty_group, spans_in, fault_at, part_fault, first_fault, with_group, field_in, field_of}
+use Rattle.dep_fields.specs.Fields.{Field, Span, spans_of, pieces, comma, bar, is_nil, reads, items_in, items_of, is_empty_group, spans_in, fault_at, part_fault, first_fault, with_group, field_in, field_of}
 use Rattle.dep_fields.specs.Grammar.{IsItem, IsRestricted, AreItems, IsGroup, AreGroups, ReadsItems, SeesRestrictions, ReadsFields}
 use Rattle.dep_fields.proofs.Taken.{item-taken}
 use Rattle.dep_fields.proofs.Spelled.{Stops, item-spelled}
@@ -146,6 +146,10 @@ fault-single at (part ∷ next ∷ parts) h = absurd (by (relationship_of part) 
     by (Ok item) false e h = cc
     by (Err kind) last e h = cc
 
+-- so where it may, it has no fault either
+fault-also : (at : ℕ) (parts : List (List ℕ)) → first_fault false at parts ≡ None → first_fault true at parts ≡ None
+fault-also at parts h = fault-none true at parts (no-fault-reads false at parts h) (λ e. absurd (cc))
+
 group-read : (alternatives : Bool) (at : ℕ) (text : List ℕ) → first_fault alternatives at (pieces bar text) ≡ None → IsGroup alternatives text (items_of text)
 group-read alternatives at text h =
     let read = no-fault-reads alternatives at (pieces bar text) h in
@@ -165,6 +169,31 @@ group-known alternatives at text items h =
     (fault-none alternatives at (pieces bar text) known.0 (λ e. let one = h.one e in omega (arith, one, len)), known.1)
 
 -- ---- fields
+
+-- the first group of a field without a fault has none
+pub first-sound : (span : Span) (spans : List Span) → (field_in true (span ∷ spans)).fault ≡ None → first_fault true span.at (pieces bar span.text) ≡ None
+first-sound span spans h = by (first_fault true span.at (pieces bar span.text)) h
+  where
+    by : (fault : Option RelFault) → (with_group fault (items_of span.text) (field_in true spans)).fault ≡ None → fault ≡ None
+    by None h = refl
+    by (Some fault) h = absurd (cc)
+
+-- a field without alternatives and without a fault is one that may have them, and says the same
+single-sound : (spans : List Span) → (field_in false spans).fault ≡ None → field_in true spans ≡ field_in false spans
+single-sound [] h = refl
+single-sound (span ∷ spans) h = by (first_fault false span.at (pieces bar span.text)) refl (single-sound spans) h
+  where
+    by : (fault : Option RelFault) → first_fault false span.at (pieces bar span.text) ≡ fault → ((field_in false spans).fault ≡ None → field_in true spans ≡ field_in false spans)
+        → (with_group fault (items_of span.text) (field_in false spans)).fault ≡ None
+        → with_group (first_fault true span.at (pieces bar span.text)) (items_of span.text) (field_in true spans) ≡ with_group fault (items_of span.text) (field_in false spans)
+    by None e more h =
+        ap (λ f. with_group f (items_of span.text) (field_in true spans)) (fault-also span.at (pieces bar span.text) e)
+        ∙ ap (with_group None (items_of span.text)) (more h)
+    by (Some fault) e more h = absurd (cc)
+
+pub field-also : (value : List ℕ) → (field_of false value).fault ≡ None → field_of true value ≡ field_of false value
+unfolding field_of
+field-also value h = single-sound (spans_of value) h
 
 abbrev full : List ℕ → Bool
 full text = not (is_empty_group text)

@@ -1,5 +1,5 @@
 -- What the readers of a relationship field have read, and what they have left to read.
-use Rattle.std.specs.Prelude.{◌≡◌, ℕ, List, [], ◌∷◌, drop, Option, Some, None, Result, Ok, Err}
+use Rattle.std.specs.Prelude.{◌≡◌, ℕ, true, List, [], ◌∷◌, drop, Option, Some, None, Result, Ok, Err}
 use Rattle.dep_fields.specs.declared.groups.Group.{Group}
 use Rattle.dep_fields.specs.declared.groups.Groups.{Groups}
 use Rattle.dep_fields.specs.declared.groups.Items.{Items}
@@ -42,7 +42,7 @@ field_left groups = left_after groups.fault groups.place (field_in groups.altern
 
 -- the groups that are left of a value without a fault
 abbrev pub sound_left : SoundGroups → List (List Relationship)
-sound_left groups = (field_in groups.alternatives (spans_in groups.place (pieces comma (drop groups.place groups.value.now)))).groups
+sound_left groups = (field_in true (spans_in groups.place (pieces comma (drop groups.place groups.value.now)))).groups
 
 -- A call of `next` with these groups and this fault left gives the first group and leaves the others, gives the
 -- fault where no group is left and leaves it, or gives `None` where nothing is left.

@@ -66,7 +66,7 @@ impl<'a> AlternativesField<'a> {
     pub fn groups(&self) -> SoundGroups<'a>
         ensures { sound_left result ≡ alternatives_groups self.now }
     {
-        SoundGroups::new(self.value, true)
+        SoundGroups::new(self.value)
     }
 }
 
@@ -105,7 +105,7 @@ impl<'a> SingleField<'a> {
     pub fn groups(&self) -> SoundGroups<'a>
         ensures { sound_left result ≡ single_groups self.now }
     {
-        SoundGroups::new(self.value, false)
+        SoundGroups::new(self.value)
     }
 }
 
@@ -148,6 +148,6 @@ impl<'a> ProvidesField<'a> {
     pub fn groups(&self) -> SoundGroups<'a>
         ensures { sound_left result ≡ provides_groups self.now }
     {
-        SoundGroups::new(self.value, false)
+        SoundGroups::new(self.value)
     }
 }

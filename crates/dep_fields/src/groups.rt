@@ -10,16 +10,14 @@ use crate::{Item, RelFault, RelKind};
 mod cuts;
 mod sound;
 
-use cuts::{count_items, cut, next_span};
+use cuts::{check_items, count_parts, cut, next_span};
 pub use sound::SoundGroups;
 
 /// The alternatives of a group, one or more. It keeps its text and reads its items from it again.
 #[derive(Clone, Copy, Debug)]
 pub struct Group<'a> {
     text: &'a [u8],
-    len: usize,
     ghost whole: { list_all reads (pieces bar text.now) ≡ true },
-    ghost counted: { len ≡ length (pieces bar text.now) },
 }
 
 /// The items of a group, in order.
@@ -102,10 +100,10 @@ impl<'a> Groups<'a> {
             return Ok(None);
         };
         let Span { at, text, end } = span;
-        match count_items(text, at, self.alternatives) {
-            Ok(len) => {
+        match check_items(text, at, self.alternatives) {
+            Ok(()) => {
                 self.place = end;
-                Ok(Some(Group { text, len }))
+                Ok(Some(Group { text }))
             }
             Err(fault) => {
                 self.place = fault.at;
@@ -121,11 +119,11 @@ impl<'a> Group<'a> {
     ghost use Rattle.dep_fields.specs.Relationships.{meaning};
     ghost use Rattle.dep_fields.specs.Views.{group_items, items_left};
 
-    /// How many alternatives the group has.
+    /// How many alternatives the group has. It counts them in the group's text.
     pub fn len(&self) -> usize
         ensures { result ≡ length (group_items self.now) }
     {
-        self.len
+        count_parts(self.text)
     }
 
     /// The alternative at a place, from 0. It reads the group's text up to there: to read all

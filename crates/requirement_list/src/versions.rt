@@ -46,7 +46,13 @@ fn add_release<'a>(
         relations.pre_depends,
         &mut room.targets,
     )?;
-    add_groups(index, collected, source, relations.depends, &mut room.targets)?;
+    add_groups(
+        index,
+        collected,
+        source,
+        relations.depends,
+        &mut room.targets,
+    )?;
     add_recommends(
         indexes,
         collected,

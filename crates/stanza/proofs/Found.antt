@@ -1,5 +1,5 @@
 -- What a pass over the fields of a paragraph finds.
-use Rattle.std.proofs.Common.{◌≡◌, ◌≢◌, ◌<◌, ℕ, Bool, true, false, List, [], ◌∷◌, length, get_or, set, nat_eq, eqb, refl, ap, sym, subst, ◌∙◌, cond, Some, None, codes, arith}
+use Rattle.std.proofs.Common.{◌≡◌, ◌≢◌, ◌<◌, ℕ, Bool, true, false, List, [], ◌∷◌, length, get_or, set, nat_eq, eqb, refl, ap, sym, subst, ◌∙◌, cond, Some, None, arith}
 use Rattle.std.specs.Prelude.{Option}
 use Rattle.std.specs.Option.{option_or, is_some}
 use Rattle.std.specs.Char.{to_ascii_lowercase}

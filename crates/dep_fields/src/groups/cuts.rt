@@ -1,6 +1,6 @@
 // The parts of a text between two marks.
 
-ghost use Rattle.std.specs.Prelude.{◌≡◌, ◌≤◌, ◌<◌, ◌+◌, ◌^◌, ◌∷◌, [], ℕ, true, length, drop, MatchOption, IfSome, IfOk, IfErr, Option};
+ghost use Rattle.std.specs.Prelude.{◌≡◌, ◌≤◌, ◌<◌, ◌+◌, ◌^◌, ◌∷◌, [], ℕ, true, length, drop, MatchOption, IfSome, IfErr, Option};
 ghost use Rattle.std.specs.Result.{result_err};
 ghost use Rattle.std.specs.List.{list_all};
 ghost use Rattle.dep_fields.specs.Relationships.{relationship_of};
@@ -44,14 +44,12 @@ fn fault_of_part(part: &[u8], at: usize, last: bool, alternatives: bool) -> Opti
     }
 }
 
-// How many items a group's text has, which begins at a place, or its first fault.
-pub fn count_items(text: &[u8], start: usize, alternatives: bool) -> Result<usize, RelFault>
+// Reads the items of a group's text, which begins at a place, up to the first fault.
+pub fn check_items(text: &[u8], start: usize, alternatives: bool) -> Result<(), RelFault>
     requires { start + length text.now < 2 ^ 63 }
     ensures fault { result_err result ≡ first_fault alternatives start (pieces bar text.now) }
-    ensures count { IfOk result (λ count. count ≡ length (pieces bar text.now)) }
     ensures within { IfErr result (λ fault. fault.at ≤ start + length text.now) }
 {
-    let mut count = 0;
     let mut place = start;
     let mut left = Some(text);
     while let Some(text) = left {
@@ -59,11 +57,10 @@ pub fn count_items(text: &[u8], start: usize, alternatives: bool) -> Result<usiz
         if let Some(fault) = fault_of_part(part, place, rest.is_none(), alternatives) {
             return Err(fault);
         }
-        count += 1;
         place += part.len() + 1;
         left = rest;
     }
-    Ok(count)
+    Ok(())
 }
 
 // How many parts a group's text has.

@@ -1,10 +1,10 @@
 // The groups of a field that is known to have no fault.
 
-ghost use Rattle.std.specs.Prelude.{◌≡◌, ◌≤◌, None, length, drop};
+ghost use Rattle.std.specs.Prelude.{◌≡◌, ◌≤◌, None, true, length, drop};
 ghost use Rattle.dep_fields.specs.Fields.{field_in, spans_in, pieces, comma};
 
-use super::cuts::{count_parts, next_span};
-use super::{Group, Span};
+use super::Group;
+use super::cuts::next_span;
 
 /// The groups of a field that was read without a fault, in order. Finding a group reads none of its
 /// items: each is read only by `Group::items`.
@@ -12,36 +12,21 @@ use super::{Group, Span};
 pub struct SoundGroups<'a> {
     value: &'a [u8],
     place: usize,
-    alternatives: bool,
     ghost within: { place ≤ length value.now },
-    ghost sound: { (field_in alternatives (spans_in place (pieces comma (drop place value.now)))).fault ≡ None },
+    ghost sound: { (field_in true (spans_in place (pieces comma (drop place value.now)))).fault ≡ None },
 }
 
 impl<'a> SoundGroups<'a> {
-    ghost use Rattle.dep_fields.specs.Fields.{field_of, first_fault, items_of, bar};
-    ghost use Rattle.dep_fields.specs.Views.{sound_left, group_items};
+    ghost use Rattle.dep_fields.specs.Fields.{field_of};
+    ghost use Rattle.dep_fields.specs.Views.{sound_left};
 
     // A reader of a value in which `Groups` finds no fault.
     #[tactic(auto, unfolding(crate::specs::Fields::field_of))]
-    pub(crate) fn new(value: &'a [u8], alternatives: bool) -> SoundGroups<'a>
-        requires { (field_of alternatives value.now).fault ≡ None }
-        ensures { sound_left result ≡ (field_of alternatives value.now).groups }
+    pub(crate) fn new(value: &'a [u8]) -> SoundGroups<'a>
+        requires { (field_of true value.now).fault ≡ None }
+        ensures { sound_left result ≡ (field_of true value.now).groups }
     {
-        SoundGroups {
-            value,
-            place: 0,
-            alternatives,
-        }
-    }
-
-    // The group of a text without a fault.
-    fn group(span: Span<'a>, alternatives: bool) -> Group<'a>
-        requires { first_fault alternatives span.at (pieces bar span.text.now) ≡ None }
-        ensures { group_items result ≡ items_of span.entry.text.now }
-    {
-        let text = span.text;
-        let len = if alternatives { count_parts(text) } else { 1 };
-        Group { text, len }
+        SoundGroups { value, place: 0 }
     }
 }
 
@@ -58,6 +43,6 @@ impl<'a> Iterator for SoundGroups<'a> {
     fn next(&mut self) -> Option<Group<'a>> {
         let span = next_span(self.value, self.place)?;
         self.place = span.end;
-        Some(SoundGroups::group(span, self.alternatives))
+        Some(Group { text: span.text })
     }
 }

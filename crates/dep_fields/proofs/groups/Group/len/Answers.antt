@@ -6,4 +6,4 @@ use Rattle.dep_fields.proofs.groups.Group.len.Goals as goal
 pub returns : goal.returns
 returns c =
     let group = c.args.self.now in
-    group.counted ∙ sym (length-items_in (pieces bar group.text.now) group.whole)
+    c.count_parts.ensures ∙ sym (length-items_in (pieces bar group.text.now) group.whole)

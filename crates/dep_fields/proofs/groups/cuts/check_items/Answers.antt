@@ -3,7 +3,7 @@ use Rattle.std.specs.Prelude.{Option}
 use Rattle.std.specs.Borrow.{Bor}
 use Rattle.dep_fields.specs.Fields.{parts_left, first_fault, bar}
 use Rattle.dep_fields.proofs.Parts.{fault-here, Ends}
-use Rattle.dep_fields.proofs.groups.cuts.count_items.Goals as goal
+use Rattle.dep_fields.proofs.groups.cuts.check_items.Goals as goal
 
 pub returns-in-Some-fault_of_part-clause-fault : goal.returns-in-Some-fault_of_part-clause-fault
 returns-in-Some-fault_of_part-clause-fault c =
