@@ -1,15 +1,14 @@
 -- The carriers that meet an item are those of the versions that meet it.
 use Rattle.std.proofs.Common.{◌≡◌, ℕ, zero, suc, ◌+◌, ◌-◌, ◌≤◌, add-zero, zero-add, arith, length, List, [], ◌∷◌, ◌++◌, Bool, true, false, cond, ◌&&◌, ◌||◌, if◌then◌else◌, Option, Some, None, refl, sym, ap, ◌∙◌, map, nat_eq}
 use Rattle.std.specs.List.{filter, flat_map, list_any, slice_get}
-use Rattle.std.specs.Option.{option_map, unwrap_or, ForSome}
-use Rattle.dep_fields.specs.declared.Item.{Item}
+use Rattle.std.specs.Option.{option_map}
 use Rattle.std.proofs.Math.Nat.{sub-zero}
 use Rattle.std.proofs.lemmas.List.Folds.{list_any-append}
 use Rattle.std.proofs.lemmas.Option.{slice_get-get_or}
 use Rattle.std.proofs.Math.Bool.{and-false}
 use Rattle.lists.proofs.Sets.{rising_same}
 use Rattle.lists.specs.Sets.{has, is_rising}
-use Rattle.dep_fields.specs.Relationships.{Relationship, VersionBound, meaning}
+use Rattle.dep_fields.specs.Relationships.{Relationship, VersionBound}
 use Rattle.ascii.specs.Texts.{is_same}
 use Rattle.universe_model.specs.Lists.{map_from, numbers_of}
 use Rattle.universe_model.specs.Meeting.{is_plain, is_within, is_provided_within, is_provided_by, meets_by_name, meets_by_provides, meets, meets_any}
@@ -208,13 +207,6 @@ pub named-carriers : (name : List ℕ) (vs : List Version) (provided : List Carr
 named-carriers name vs provided first is =
     ap (λ n. numbers_of (is_named name) (map_from own 0 vs) ++ numbers_from n (is_named name) provided) (is ∙ sym (length-own 0 vs) ∙ sym (zero-add (length (map_from own 0 vs))))
     ∙ sym (numbers_from-append 0 (is_named name) (map_from own 0 vs) provided)
-
--- what the last item finds was found, and so what one finds that says the same
-pub found-again : (native : List ℕ) (vs : List Version) (last : Option Item) (item : Relationship) (met : List ℕ)
-    → ForSome last (λ x. (c : ℕ) → (has met c || has (carried native vs (meaning x)) c) ≡ has met c) → option_map meaning last ≡ Some item
-    → (c : ℕ) → (has met c || has (carried native vs item) c) ≡ has met c
-found-again native vs None item met h e = absurd (cc)
-found-again native vs (Some x) item met h e = λ c. ap (λ i. has met c || has (carried native vs i) c) (sym (ap (λ o. unwrap_or o item) e)) ∙ h x refl c
 
 -- what the carriers of a name find is what those of all carriers do that have the name
 pub crowd-carriers : (native : List ℕ) (vs : List Version) (listed : List Carrier) (name numbers : List ℕ) (bound : Option VersionBound) (c : ℕ)

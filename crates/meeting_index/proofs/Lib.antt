@@ -1,5 +1,6 @@
 pub mod AnswerKeys
 pub mod CarrierLists
+pub mod Covering
 pub mod CrowdLaws
 pub mod CrowdRanges
 pub mod Edges

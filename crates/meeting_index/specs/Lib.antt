@@ -1,5 +1,6 @@
 pub mod CarriedLaws
 pub mod Carriers
+pub mod Covered
 pub mod Crowds
 pub mod Finding
 pub mod Fitting

@@ -1,7 +1,7 @@
 // The index of all versions.
 
 ghost use Rattle.std.specs.Prelude.{◌≡◌, ◌≤◌, ◌||◌, ℕ, length, map, nat_lt, IsTrue, IfOk, IfSome, OnOk};
-ghost use Rattle.std.specs.List.{list_all, list_any};
+ghost use Rattle.std.specs.List.{flat_map, list_all, list_any};
 ghost use Rattle.lists.specs.Sets.{has, is_rising};
 ghost use Rattle.dep_fields.specs.Relationships.{meaning};
 ghost use Rattle.dep_fields.specs.Views.{group_items};
@@ -10,13 +10,14 @@ ghost use Rattle.universe_model.specs.Lists.{numbers_of};
 ghost use Rattle.universe_model.specs.Meeting.{meets, meets_any};
 ghost use Rattle.universe_parts.specs.Listed.{version_listed};
 ghost use Rattle.meeting_index.specs.Carriers.{carried};
+ghost use Rattle.meeting_index.specs.Covered.{IsCovered};
 ghost use Rattle.meeting_index.specs.Finding.{Finds};
 ghost use Rattle.meeting_index.specs.Keys.{IsKeyOf};
 
 use crate::crowds::{Crowds, add_crowd, crowd_carriers, edge_of_crowd, is_crowd, one_of_crowd};
 use crate::found::{Carriers, add_met, first_met};
 use crate::given::Provided;
-use crate::items::is_again;
+use crate::items::{covers, order};
 use crate::keys::{AnswerKey, Span, span_of};
 use crate::naming::name_carriers;
 use crate::provided::list_provided;
@@ -36,6 +37,16 @@ fn thin_out(numbers: &mut Vec<u32>, left: usize) -> usize
     }
     make_rising(numbers);
     numbers.len()
+}
+
+// Whether the last item, if there is one, covers another one.
+fn is_covered(last: Option<Item<'_>>, item: &Item<'_>) -> bool
+    ensures { IsTrue result → IsCovered last.entry (meaning item.now) }
+{
+    match last {
+        Some(last) => covers(&last, item),
+        None => false,
+    }
 }
 
 /// Finds the versions that meet an item of a relationship field, by the names that they carry or provide. A contract sees
@@ -115,15 +126,7 @@ impl<'s, 'a> MeetingIndex<'s, 'a> {
         ensures within { OnOk result (IsTrue (list_all (λ v. nat_lt v (length self.now.versions)) targets.new.items)) }
     {
         targets.clear();
-        let mut last = None;
-        let mut left = 0;
-        for item in group.items() {
-            if !is_again(last, &item) {
-                self.add_met_by(&item, targets)?;
-                left = thin_out(targets, left);
-                last = Some(item);
-            }
-        }
+        self.add_group(group, targets)?;
         make_rising(targets);
         Ok(())
     }
@@ -164,6 +167,73 @@ impl<'s, 'a> MeetingIndex<'s, 'a> {
                 Some(AnswerKey { span, carrier })
             }
         }
+    }
+
+    // Adds the versions that meet one of the items of a group.
+    fn add_group(&self, group: &Group<'a>, met: &mut Vec<u32>) -> Result<(), NoMemory>
+        ensures { OnOk result ((c : ℕ) → has met.new.items c ≡ (has met.old.items c || has (flat_map (carried self.now.native self.now.versions) (group_items group.now)) c)) }
+    {
+        if group.len() <= 8 {
+            return self.add_few(group, met);
+        }
+        let mut items = self.plain_items(*met.allocator(), group)?;
+        items.sort_unstable_by(|item, other| order(item, other));
+        self.add_many(items.as_slice(), met)
+    }
+
+    // Adds the versions that meet one of the items of a group, one item after another.
+    fn add_few(&self, group: &Group<'a>, met: &mut Vec<u32>) -> Result<(), NoMemory>
+        ensures { OnOk result ((c : ℕ) → has met.new.items c ≡ (has met.old.items c || has (flat_map (carried self.now.native self.now.versions) (group_items group.now)) c)) }
+    {
+        for item in group.items() {
+            self.add_met_by(&item, met)?;
+        }
+        Ok(())
+    }
+
+    // Adds the versions that meet one of these items, but for those of which the last one that was looked at covers them. In
+    // their order the carriers of a name are listed once for each operator.
+    fn add_many(&self, items: &[Item<'a>], met: &mut Vec<u32>) -> Result<(), NoMemory>
+        ensures { OnOk result ((c : ℕ) → has met.new.items c ≡ (has met.old.items c || has (flat_map (carried self.now.native self.now.versions) (map meaning items.now)) c)) }
+    {
+        let mut last = None;
+        let mut left = 0;
+        for item in items {
+            if is_covered(last, item) {
+                continue;
+            }
+            self.add_met_by(item, met)?;
+            left = thin_out(met, left);
+            last = Some(*item);
+        }
+        Ok(())
+    }
+
+    // The items of a group that can be met, without their architectures.
+    fn plain_items(&self, alloc: Global, group: &Group<'a>) -> Result<Vec<Item<'a>>, NoMemory>
+        ensures { IfOk result (λ items. (c : ℕ) → has (flat_map (carried self.now.native self.now.versions) (map meaning items.items)) c ≡ has (flat_map (carried self.now.native self.now.versions) (group_items group.now)) c) }
+    {
+        let mut items = Vec::with_capacity(alloc, group.len())?;
+        for item in group.items() {
+            self.add_plain(&mut items, &item)?;
+        }
+        Ok(items)
+    }
+
+    // Adds an item without its architecture, if it can be met.
+    fn add_plain(&self, items: &mut Vec<Item<'a>>, item: &Item<'a>) -> Result<(), NoMemory>
+        ensures { OnOk result ((c : ℕ) → has (flat_map (carried self.now.native self.now.versions) (map meaning items.new.items)) c ≡ (has (flat_map (carried self.now.native self.now.versions) (map meaning items.old.items)) c || has (carried self.now.native self.now.versions (meaning item.now)) c)) }
+    {
+        let plain = is_plain(self.native, item.arch);
+        if !plain {
+            return Ok(());
+        }
+        items.push(Item {
+            name: item.name,
+            arch: None,
+            rel: item.rel,
+        })?;
+        Ok(())
     }
 
     // One of the versions that meet an item, if there is any.

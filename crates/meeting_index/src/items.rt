@@ -1,32 +1,27 @@
-// Items that say the same.
+// Items that other items cover.
 
-ghost use Rattle.std.specs.Prelude.{◌≡◌, IsTrue, Some};
-ghost use Rattle.std.specs.Option.{option_copied, option_map};
+ghost use Rattle.std.specs.Prelude.{◌≡◌, Some, IsTrue};
+ghost use Rattle.std.specs.Option.{option_map};
 ghost use Rattle.dep_fields.specs.Relationships.{bound_of, meaning};
+ghost use Rattle.meeting_index.specs.Covered.{Implies, ImpliesBound};
 
-use deb_version::Version;
+use crate::keys::{Span, span_of};
+use deb_version::{Version, compare};
 use dep_fields::{Item, Op};
+use std::cmp::Ordering;
 
-/// Whether an item says what the last one says.
-pub fn is_again(last: Option<Item<'_>>, item: &Item<'_>) -> bool
-    ensures { IsTrue result → option_map meaning last.entry ≡ Some (meaning item.now) }
+/// Whether an item covers another one, as seen from their texts: all versions that meet the other one meet it too. It names no
+/// architecture, and has the same name, and no bound or one of the same operator that is no stricter.
+pub fn covers(wide: &Item<'_>, item: &Item<'_>) -> bool
+    ensures { IsTrue result → Implies (meaning item.now) (meaning wide.now) }
 {
-    match last {
-        Some(last) => says_same(&last, item),
-        None => false,
-    }
-}
-
-fn says_same(a: &Item<'_>, b: &Item<'_>) -> bool
-    ensures { IsTrue result → meaning a.now ≡ meaning b.now }
-{
-    if !is_same_text(a.name, b.name) {
+    if wide.arch.is_some() {
         return false;
     }
-    if !is_same_arch(a.arch, b.arch) {
+    if !is_same_text(wide.name, item.name) {
         return false;
     }
-    is_same_bound(a.rel, b.rel)
+    covers_bound(wide.rel, item.rel)
 }
 
 fn is_same_text(a: &[u8], b: &[u8]) -> bool
@@ -35,24 +30,60 @@ fn is_same_text(a: &[u8], b: &[u8]) -> bool
     a == b
 }
 
-fn is_same_arch(a: Option<&[u8]>, b: Option<&[u8]>) -> bool
-    ensures { IsTrue result → option_copied a.entry ≡ option_copied b.entry }
+fn covers_bound(wide: Option<(Op, Version<'_>)>, rel: Option<(Op, Version<'_>)>) -> bool
+    ensures { IsTrue result → ImpliesBound (option_map bound_of rel.entry) (option_map bound_of wide.entry) }
 {
-    match (a, b) {
-        (None, None) => true,
-        (Some(arch), Some(other)) => is_same_text(arch, other),
+    match (wide, rel) {
+        (None, _) => true,
+        (Some((op, version)), Some((other_op, other))) => {
+            op == other_op && is_no_stricter(op, &version, &other)
+        }
         _ => false,
     }
 }
 
-fn is_same_bound(a: Option<(Op, Version<'_>)>, b: Option<(Op, Version<'_>)>) -> bool
-    ensures { IsTrue result → option_map bound_of a.entry ≡ option_map bound_of b.entry }
+// Whether a bound with a version is no stricter than one of the same operator with another version.
+fn is_no_stricter(op: Op, version: &Version<'_>, other: &Version<'_>) -> bool
+    ensures { IsTrue result → ImpliesBound (Some (bound_of (op, other.now))) (Some (bound_of (op, version.now))) }
 {
+    let order = compare(version, other);
+    match span_of(op) {
+        Span::Earlier => order.is_ge(),
+        Span::Later => order.is_le(),
+        Span::All | Span::Equal => order.is_eq(),
+    }
+}
+
+/// An order in which items of one name and one operator stand behind one another, and one that covers others in front of them.
+pub fn order(a: &Item<'_>, b: &Item<'_>) -> Ordering {
+    a.name.cmp(b.name).then(order_bounds(a.rel, b.rel))
+}
+
+fn order_bounds(a: Option<(Op, Version<'_>)>, b: Option<(Op, Version<'_>)>) -> Ordering {
     match (a, b) {
-        (None, None) => true,
-        (Some((op, version)), Some((other_op, other))) => {
-            op == other_op && is_same_text(version.text, other.text)
-        }
-        _ => false,
+        (None, None) => Ordering::Equal,
+        (None, Some(_)) => Ordering::Less,
+        (Some(_), None) => Ordering::Greater,
+        (Some((op, version)), Some((other_op, other))) => place_of(op)
+            .cmp(&place_of(other_op))
+            .then(order_versions(op, &version, &other)),
+    }
+}
+
+fn order_versions(op: Op, a: &Version<'_>, b: &Version<'_>) -> Ordering {
+    match span_of(op) {
+        Span::Earlier => compare(b, a),
+        _ => compare(a, b),
+    }
+}
+
+// Where an operator stands among all.
+fn place_of(op: Op) -> u8 {
+    match op {
+        Op::Less => 0,
+        Op::AtMost => 1,
+        Op::Equal => 2,
+        Op::AtLeast => 3,
+        Op::More => 4,
     }
 }
