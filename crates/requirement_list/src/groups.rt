@@ -1,6 +1,6 @@
 //! The dependencies of the groups of a field: of Pre-Depends and Depends, and of Recommends (Debian Policy 7.2).
 
-ghost use Rattle.std.specs.Prelude.{◌≡◌, ◌<◌, ◌≤◌, ◌∷◌, [], map, length, true, not, ◌&&◌, IsTrue, nat_lt, MatchResult};
+ghost use Rattle.std.specs.Prelude.{◌≡◌, ◌<◌, ◌≤◌, ◌∷◌, [], map, length, not, ◌&&◌, IsTrue, nat_lt, MatchResult};
 ghost use Rattle.std.specs.List.{filter, list_all, list_any};
 ghost use Rattle.lists.specs.Sets.{has};
 ghost use Rattle.resolver_model.specs.Problems.{version_count};
