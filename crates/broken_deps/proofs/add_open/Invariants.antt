@@ -4,4 +4,4 @@ use Rattle.resolver_model.specs.Problems.{is_open}
 use Rattle.broken_deps.proofs.add_open.Given as goal
 
 abbrev pub invariant-loop-dep : goal.invariant-loop-dep
-invariant-loop-dep l = l.list.items ≡ l.initial.list.items ++ filter (is_open l.problem l.set) (take l.dep-index l.deps)
+invariant-loop-dep l = l.list.items ≡ l.initial.list.items ++ filter (is_open l.installed.problem.now l.installed.set.now) (take l.dep-index l.deps)

@@ -1,8 +1,8 @@
 use Rattle.std.proofs.Common.{◌≡◌, ◌<◌, ◌≤◌, ◌++◌, ◌∙◌, ap, nat_lt, arith}
 use Rattle.std.specs.List.{filter, list_all}
 use Rattle.std.proofs.lemmas.Bool.{lt-ltb, le-ltb}
-use Rattle.resolver_model.specs.Problems.{dependency_count, version_count, package_of, state}
-use Rattle.broken_deps.specs.Opening.{open_deps, stays_open}
+use Rattle.resolver_model.specs.Problems.{dependency_count, version_count, package_of, state, is_open}
+use Rattle.broken_deps.specs.Opening.{open_deps, nearby, stays_open}
 use Rattle.broken_deps.proofs.After.{still_open, open_after_version, open_after_leave}
 use Rattle.broken_deps.proofs.Found.{open_range, state_range}
 use Rattle.broken_deps.proofs.BrokenList.open_after.Goals as goal
@@ -39,4 +39,5 @@ returns c =
     let still = still_open p set c.args.larger.now c.args.choice c.as_slice.result.now c.add_still_open.new.list.items c.requires.larger deps start in
     let lt : c.args.choice < version_count p = omega (arith, c.versions.ensures.count, c.if-choice-versions.false) in
     let before : c.state-before.result ≡ state p set (package_of p c.args.choice) = c.state-before.ensures ∙ ap (state p set) c.package_of.ensures.package in
-    open_after_version p set c.args.larger.now c.args.choice c.state-before.result c.add_still_open.new.list.items c.add_nearby.new.list.items (lt-ltb c.args.choice (version_count p) lt) before still c.in_ok-add_nearby.ensures
+    open_after_version p set c.args.larger.now c.args.choice c.state-before.result c.add_still_open.new.list.items c.add_nearby.new.list.items (lt-ltb c.args.choice (version_count p) lt) before still
+    (c.in_ok-add_nearby.ensures ∙ ap (λ larger. c.add_still_open.new.list.items ++ filter (is_open p larger) (nearby p c.args.choice c.state-before.result)) c.under-installed.ensures.set)
