@@ -70,7 +70,7 @@ no-span op.More e = cc
 module _ (native : List ℕ) (vs : List Version) (crowds : Crowds) (name : List ℕ)
     (met : (bound : Option VersionBound) (c : ℕ) → crowds_have crowds name bound c ≡ list_any (meets_under name bound c) (carriers native vs)) where
   -- what the crowd has for an item of the name
-  asked : (item : Relationship) → is_plain native item.arch ≡ true → item.name ≡ name → (c : ℕ) → crowds_have crowds name item.rel c ≡ has (numbers_of (meets native item) vs) c
+  pub asked : (item : Relationship) → is_plain native item.arch ≡ true → item.name ≡ name → (c : ℕ) → crowds_have crowds name item.rel c ≡ has (numbers_of (meets native item) vs) c
   asked item plain e c =
       met item.rel c
       ∙ ap (λ n. list_any (meets_under n item.rel c) (carriers native vs)) (sym e)

@@ -4,6 +4,7 @@ pub mod Covering
 pub mod CrowdLaws
 pub mod CrowdRanges
 pub mod Edges
+pub mod Fewness
 pub mod Finding
 pub mod NamedRuns
 pub mod Numbers

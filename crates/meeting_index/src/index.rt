@@ -1,6 +1,6 @@
 // The index of all versions.
 
-ghost use Rattle.std.specs.Prelude.{◌≡◌, ◌≤◌, ◌||◌, ℕ, length, map, nat_lt, IsTrue, IfOk, IfSome, OnOk};
+ghost use Rattle.std.specs.Prelude.{◌≡◌, ◌≤◌, ◌||◌, ℕ, length, map, nat_lt, None, IsTrue, IfOk, IfSome, OnOk};
 ghost use Rattle.std.specs.List.{flat_map, list_all, list_any};
 ghost use Rattle.lists.specs.Sets.{has, is_rising};
 ghost use Rattle.dep_fields.specs.Relationships.{meaning};
@@ -144,9 +144,10 @@ impl<'s, 'a> MeetingIndex<'s, 'a> {
     }
 
     /// What the answer to an item is known by, where it may be long: two items with one key are met by the same versions, so
-    /// what was made of the answer to one serves for the other. A name has at most three keys for each of its carriers, and one more.
+    /// what was made of the answer to one serves for the other. An answer without a key has at most 16 versions. A name has at most three keys for each of its carriers, and one more.
     pub fn answer_key(&self, item: &Item<'a>) -> Option<AnswerKey>
         ensures key { IfSome result (IsKeyOf self.now (meaning item.now)) }
+        ensures few { result ≡ None → length (numbers_of (meets self.now.native (meaning item.now)) self.now.versions) ≤ 16 }
     {
         let plain = is_plain(self.native, item.arch);
         if !plain {
