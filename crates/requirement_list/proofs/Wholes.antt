@@ -1,8 +1,6 @@
 -- The dependencies of all versions, one version after another, and as a whole list.
-use Rattle.std.proofs.Common.{◌≡◌, ◌<◌, ℕ, zero, suc, List, [], ◌∷◌, Bool, true, length, map, get_or, ap, sym, subst, ◌∙◌, arith}
-use Rattle.std.specs.List.{list_all}
+use Rattle.std.proofs.Common.{◌≡◌, ℕ, List, [], ◌∷◌, map, ap, sym, subst, ◌∙◌}
 use Rattle.std.proofs.lemmas.List.{append-nil}
-use Rattle.std.proofs.lemmas.Bool.{and_parts}
 use Rattle.resolver_model.specs.Problems.{Problem}
 use Rattle.meeting_index.specs.Indexes.{Indexed}
 use Rattle.universe_model.specs.Dependencies.{Requirement, Setting}
@@ -16,12 +14,6 @@ use Rattle.requirement_list.specs.declared.Indexes.{Indexes}
 use Rattle.requirement_list.specs.Settings.{setting_of}
 use Rattle.requirement_list.specs.Collecting.{HasLeft, HasCome, HasEnded}
 use Rattle.requirement_list.specs.RequirementLists.{IsEndOf, IsRequirementList}
-
--- a test that all pass, at one
-pub passes_at : {A B : Type 0} (t : B → Bool) (f : A → B) (xs : List A) → list_all t (map f xs) ≡ true → (k : ℕ) (d : A) → k < length xs → t (f (get_or xs k d)) ≡ true
-passes_at t f [] h k d lt = absurd (omega arith)
-passes_at t f (x ∷ xs) h zero d lt = (and_parts (t (f x)) _ h).0
-passes_at t f (x ∷ xs) h (suc k) d lt = passes_at t f xs (and_parts (t (f x)) _ h).1 k d (omega arith)
 
 -- the setting of an index and of nothing collected
 pub same_setting : (index given : Indexed) (c : Collected) (packages : Problem) → index ≡ given → c.builder ≡ packages

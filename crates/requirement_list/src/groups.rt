@@ -1,13 +1,12 @@
 //! The dependencies of the groups of a field: of Pre-Depends and Depends, and of Recommends (Debian Policy 7.2).
 
-ghost use Rattle.std.specs.Prelude.{◌≡◌, ◌<◌, ◌≤◌, ◌∷◌, [], map, length, not, ◌&&◌, IsTrue, nat_lt, MatchResult};
-ghost use Rattle.std.specs.List.{filter, list_all, list_any};
+ghost use Rattle.std.specs.Prelude.{◌≡◌, ◌<◌, ◌+◌, ◌∷◌, [], map, length, not, ◌&&◌, MatchResult};
+ghost use Rattle.std.specs.List.{filter, list_any};
 ghost use Rattle.lists.specs.Sets.{has};
 ghost use Rattle.resolver_model.specs.Problems.{version_count};
 ghost use Rattle.dep_fields.specs.Checked.{alternatives_groups};
 ghost use Rattle.dep_fields.specs.Views.{group_items};
 ghost use Rattle.universe_model.specs.Dependencies.{of_group, recommended, is_broken_now, of_recommends};
-ghost use Rattle.universe_model.specs.Limits.{most_groups};
 ghost use Rattle.requirement_list.specs.Settings.{owners_of, setting_of, AreTargets};
 ghost use Rattle.universe_model.specs.declared.BuildEnd.TheVariants.{NoMemory};
 ghost use Rattle.requirement_list.specs.Collecting.{Adds};
@@ -112,6 +111,16 @@ fn add_recommended<'a>(
     collected.add(source, targets.as_slice(), Field::Recommends(place))
 }
 
+// The place behind one. More places than there are numbers are a want of memory.
+fn behind(place: u32) -> Result<u32, BuildEnd>
+    ensures { MatchResult result (λ next. next ≡ place + 1) (λ end. end ≡ NoMemory) }
+{
+    match place.checked_add(1) {
+        Some(next) => Ok(next),
+        None => Err(BuildEnd::NoMemory),
+    }
+}
+
 /// Adds the dependencies of Recommends. Groups are counted from 1, also those that give no dependency.
 pub fn add_recommends<'a>(
     indexes: &Indexes<'_, '_, 'a>,
@@ -123,12 +132,11 @@ pub fn add_recommends<'a>(
     requires owners { collected.old.builder.owners ≡ owners_of indexes.now.all.versions }
     requires installed { HasInstalled collected.old.builder.starts indexes.now }
     requires source { source < length indexes.now.all.versions }
-    requires few { length (alternatives_groups field) ≤ most_groups }
     ensures { Adds (of_recommends (setting_of indexes.now.all collected.old) source (alternatives_groups field.entry)) collected.old result collected.new }
 {
     let mut place = 0;
     for group in field.groups() {
-        place += 1;
+        place = behind(place)?;
         add_recommended(indexes, collected, source, place, &group, targets)?;
     }
     Ok(())

@@ -2,11 +2,9 @@
 //! Dependencies".
 #![tactic(auto)]
 
-ghost use Rattle.std.specs.Prelude.{◌≡◌, ◌⊎◌, [], Some, IsTrue, map, option_map, MatchResult};
-ghost use Rattle.std.specs.List.{list_all};
+ghost use Rattle.std.specs.Prelude.{◌≡◌, ◌⊎◌, [], Some, map, option_map, MatchResult};
 ghost use Rattle.universe_model.specs.Faults.{build_end};
 ghost use Rattle.universe_model.specs.Dependencies.{Setting, requirements};
-ghost use Rattle.universe_model.specs.Limits.{are_groups_few};
 ghost use Rattle.universe_model.specs.declared.BuildEnd.TheVariants.{NoMemory};
 ghost use Rattle.universe_parts.specs.Listed.{version_listed};
 ghost use Rattle.requirement_list.specs.Settings.{owners_of};
@@ -70,7 +68,6 @@ pub fn list_requirements<'s, 'a>(
 ) -> Result<RequirementList, BuildEnd>
     requires owners { builder.owners ≡ owners_of (map version_listed versions.now) }
     requires none { builder.dependencies ≡ [] }
-    requires few { IsTrue (list_all are_groups_few (map version_listed versions.now)) }
     ensures { let rs = requirements (record { native = native.now; versions = map version_listed versions.now; installed = builder.starts }) in
         MatchResult result (IsRequirementList builder rs) (λ end. (end ≡ NoMemory) ⊎ (option_map build_end (requirement_refusal rs) ≡ Some end)) }
 {

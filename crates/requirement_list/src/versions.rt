@@ -1,12 +1,9 @@
 //! The dependencies of a version, and of all versions in order.
 
-ghost use Rattle.std.specs.Prelude.{◌≡◌, ◌<◌, ◌≤◌, true, IsTrue, Some, map, length, OnOk};
-ghost use Rattle.std.specs.List.{list_all};
+ghost use Rattle.std.specs.Prelude.{◌≡◌, ◌<◌, ◌≤◌, Some, map, length, OnOk};
 ghost use Rattle.problem.specs.Limits.{most_versions};
-ghost use Rattle.dep_fields.specs.Checked.{alternatives_groups};
 ghost use Rattle.universe_model.specs.Versions.{release_of};
 ghost use Rattle.universe_model.specs.Dependencies.{of_release, of_version, requirements};
-ghost use Rattle.universe_model.specs.Limits.{most_groups, are_groups_few};
 ghost use Rattle.universe_parts.specs.Listed.{stanza_read, version_listed};
 ghost use Rattle.requirement_list.specs.Settings.{owners_of, setting_of};
 ghost use Rattle.requirement_list.specs.Collecting.{Adds};
@@ -33,7 +30,6 @@ fn add_release<'a>(
     requires installed { HasInstalled collected.old.builder.starts indexes.now }
     requires kept { AreRows (setting_of indexes.now.all collected.old) room.old.answers }
     requires source { source < length indexes.now.all.versions }
-    requires few { length (alternatives_groups read.now.stanza.relations.recommends) ≤ most_groups }
     ensures adds { Adds (of_release (setting_of indexes.now.all collected.old) source own (Some (release_of (stanza_read read.now)))) collected.old result collected.new }
     ensures kept { OnOk result (AreRows (setting_of indexes.now.all collected.old) room.new.answers) }
 {
@@ -76,7 +72,6 @@ pub fn add_version<'a>(
     requires installed { HasInstalled collected.old.builder.starts indexes.now }
     requires kept { AreRows (setting_of indexes.now.all collected.old) room.old.answers }
     requires source { source < length indexes.now.all.versions }
-    requires few { are_groups_few (version_listed version.now) ≡ true }
     ensures adds { Adds (of_version (setting_of indexes.now.all collected.old) source (version_listed version.now)) collected.old result collected.new }
     ensures kept { OnOk result (AreRows (setting_of indexes.now.all collected.old) room.new.answers) }
 {
@@ -98,7 +93,6 @@ pub fn add_versions<'a>(
     requires installed { HasInstalled collected.old.builder.starts indexes.now }
     requires kept { AreRows (setting_of indexes.now.all collected.old) room.old.answers }
     requires few { length versions.now ≤ most_versions }
-    requires groups { IsTrue (list_all are_groups_few (map version_listed versions.now)) }
     ensures adds { Adds (requirements (setting_of indexes.now.all collected.old)) collected.old result collected.new }
     ensures kept { OnOk result (AreRows (setting_of indexes.now.all collected.old) room.new.answers) }
 {

@@ -1,14 +1,12 @@
 -- The universe of two texts is that of their stanzas, where the texts have no fault.
-use Rattle.std.proofs.Common.{◌≡◌, ◌⊎◌, inl, inr, List, Some, None, option_map, sym, ap, ◌∙◌, subst, IsTrue}
+use Rattle.std.proofs.Common.{◌≡◌, ◌⊎◌, inl, inr, List, Some, None, option_map, sym, ap, ◌∙◌}
 use Rattle.std.specs.Option.{option_or}
-use Rattle.std.specs.List.{list_all}
 use Rattle.control_file.specs.Text.{reading}
 use Rattle.stanza.specs.Stanzas.{package_stanza, status_stanza}
 use Rattle.universe_model.specs.Faults.{build_end}
-use Rattle.universe_model.specs.Limits.{build_refusal, limit_past, are_groups_few}
+use Rattle.universe_model.specs.Limits.{build_refusal, limit_past}
 use Rattle.universe_model.specs.Reading.{Texts, ReadStanza, Stanzas, stanzas_of, text_fault}
 use Rattle.universe_model.specs.Universes.{Universe, universe, universe_of, problem_of}
-use Rattle.universe_model.specs.Versions.{versions}
 use Rattle.universe_model.specs.declared.BuildEnd.{BuildEnd}
 use Rattle.universe_model.specs.declared.FileKind.TheVariants.{Status, Packages}
 use Rattle.universe.specs.Building.{IsOfStanzas}
@@ -36,6 +34,3 @@ module _ (texts : Texts) (stanzas : Stanzas) (same : stanzas ≡ stanzas_of text
       → (end ≡ want) ⊎ (build_refusal texts ≡ Some end)
   whole-end end want (inl e) = inl e
   whole-end end want (inr e) = inr (refusal-is ∙ e)
-
-  pub whole-few : IsTrue (list_all are_groups_few (versions (stanzas_of texts))) → IsTrue (list_all are_groups_few (versions stanzas))
-  whole-few few = subst (λ s. IsTrue (list_all are_groups_few (versions s))) (sym same) few

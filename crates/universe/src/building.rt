@@ -1,10 +1,8 @@
 //! How a universe is made of two texts.
 
-ghost use Rattle.std.specs.Prelude.{◌≡◌, ◌≤◌, ◌⊎◌, None, Some, MatchResult, IsTrue, IfOk, length};
-ghost use Rattle.std.specs.List.{list_all};
-ghost use Rattle.universe_model.specs.Limits.{AreWithin, are_groups_few, build_refusal, most_file_bytes};
+ghost use Rattle.std.specs.Prelude.{◌≡◌, ◌⊎◌, None, Some, MatchResult};
+ghost use Rattle.universe_model.specs.Limits.{build_refusal};
 ghost use Rattle.universe_model.specs.Universes.{universe};
-ghost use Rattle.universe_model.specs.Versions as model;
 ghost use Rattle.universe_model.specs.declared.BuildEnd.TheVariants as build_end;
 ghost use Rattle.version_list.specs.Listings.{stanzas_read};
 ghost use Rattle.universe.specs.Building.{IsOfStanzas, IsEndOf};
@@ -12,9 +10,7 @@ ghost use Rattle.universe.specs.Building.{IsOfStanzas, IsEndOf};
 use crate::Universe;
 use crate::known::known_versions;
 use crate::order::versions_in_order;
-use laws_universe::{
-    candidates_are_versions, dependencies_stand_in_order, groups_are_few, versions_stand_apart,
-};
+use laws_universe::{candidates_are_versions, dependencies_stand_in_order, versions_stand_apart};
 use requirement_list::list_requirements;
 use stanza_list::{package_stanzas, status_stanzas};
 use std::alloc::Global;
@@ -30,7 +26,6 @@ impl Universe {
         status: &[ReadStanza<'_>],
         packages: &[ReadStanza<'_>],
     ) -> Result<Universe, BuildEnd>
-        requires { IsTrue (list_all are_groups_few (model.versions (stanzas_read status.now packages.now))) }
         ensures { MatchResult result (λ u. IsOfStanzas native.now (stanzas_read status.now packages.now) u) (λ end. IsEndOf native.now (stanzas_read status.now packages.now) end) }
     {
         candidates_are_versions();
@@ -61,21 +56,18 @@ impl Universe {
         })
     }
 
-    /// The universe of a status file and a packages file (Debian Policy 5.3), each of at most 268,435,456 bytes, for a native
-    /// architecture. Else the first fault of a file is answered: that of the status file before that of the other, by
-    /// paragraph, and in a paragraph that of a line before that of the stanza. Where both have none, the first count that is
-    /// exceeded is: that of packages, versions, dependencies, and targets over all dependencies.
+    /// The universe of a status file and a packages file (Debian Policy 5.3) for a native architecture. Else the first fault of a
+    /// file is answered: that of the status file before that of the other, by paragraph, and in a paragraph that of a line before
+    /// that of the stanza. Where both have none, the first count that is exceeded is: that of packages, versions, dependencies,
+    /// and targets over all dependencies.
     pub fn build(
         alloc: Global,
         status: &[u8],
         packages: &[u8],
         arch: &[u8],
     ) -> Result<Universe, BuildEnd>
-        requires status { length status.now ≤ most_file_bytes }
-        requires packages { length packages.now ≤ most_file_bytes }
         ensures { MatchResult result (λ u. (u ≡ universe (record { status = status.now; packages = packages.now; native = arch.now })) × (build_refusal (record { status = status.now; packages = packages.now; native = arch.now }) ≡ None)) (λ end. (end ≡ build_end.NoMemory) ⊎ (build_refusal (record { status = status.now; packages = packages.now; native = arch.now }) ≡ Some end)) }
     {
-        groups_are_few();
         let status = status_stanzas(alloc, arch, status)?;
         let packages = package_stanzas(alloc, arch, packages)?;
         Universe::of_stanzas(alloc, arch, status.as_slice(), packages.as_slice())

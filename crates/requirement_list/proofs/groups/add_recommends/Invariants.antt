@@ -1,4 +1,4 @@
-use Rattle.std.proofs.Common.{◌≡◌, ◌+◌, length, not}
+use Rattle.std.proofs.Common.{◌+◌, not}
 use Rattle.std.specs.List.{filter}
 use Rattle.dep_fields.specs.Checked.{alternatives_groups}
 use Rattle.dep_fields.specs.Views.{sound_left}
@@ -12,7 +12,4 @@ abbrev pub invariant-loop-group : goal.invariant-loop-group
 invariant-loop-group l =
     let s = setting_of l.indexes.all l.fn.collected in
     let left = sound_left l.group-iterator in
-    record {
-      places : l.place + length left ≡ length (alternatives_groups l.fn.field);
-      come : HasCome (of_recommends s l.source (alternatives_groups l.fn.field)) (filter (λ r. not (is_broken_now s r)) (map_from (recommended s l.source) (l.place + 1) left)) l.initial.collected l.collected;
-    }
+    HasCome (of_recommends s l.source (alternatives_groups l.fn.field)) (filter (λ r. not (is_broken_now s r)) (map_from (recommended s l.source) (l.place + 1) left)) l.initial.collected l.collected

@@ -1,9 +1,8 @@
-use Rattle.std.proofs.Common.{◌≡◌, ◌+◌, List, true, map, drop, sym, subst}
+use Rattle.std.proofs.Common.{◌+◌, List, map, drop, sym, subst}
 use Rattle.std.proofs.lemmas.Result.{err_from_is_err_and}
 use Rattle.lists.proofs.Cuts.{drop_at}
 use Rattle.universe_model.specs.Lists.{map_from}
 use Rattle.universe_model.specs.Versions.{concat}
-use Rattle.universe_model.specs.Limits.{are_groups_few}
 use Rattle.universe_model.specs.Dependencies.{Setting, of_version, requirements}
 use Rattle.universe_parts.specs.Listed.{version_listed}
 use Rattle.universe_parts.specs.declared.listed.ListedVersion.{ListedVersion}
@@ -11,14 +10,7 @@ use Rattle.requirement_list.specs.Settings.{setting_of}
 use Rattle.requirement_list.specs.Collecting.{HasCome}
 use Rattle.requirement_list.proofs.Collecting.{come_step, ended_step}
 use Rattle.requirement_list.proofs.Rows.{rows_along}
-use Rattle.requirement_list.proofs.Wholes.{passes_at}
 use Rattle.requirement_list.proofs.versions.add_versions.Goals as goal
-
-pub add_version-requires-clause-few : goal.add_version-requires-clause-few
-add_version-requires-clause-few c =
-    let v = c.index-versions-number.result in
-    let P : ListedVersion → Type 0 = λ v. are_groups_few (version_listed v) ≡ true in
-    subst P (sym c.index-versions-number.is) (passes_at are_groups_few version_listed c.args.versions.now c.requires.groups c.loop-number.number v c.loop-number-test.true)
 
 pub returns-in_err-add_version-clause-adds : goal.returns-in_err-add_version-clause-adds
 returns-in_err-add_version-clause-adds c =

@@ -4,15 +4,8 @@ use Rattle.universe_model.specs.Reading.{Texts}
 use Rattle.universe_model.specs.declared.BuildEnd.TheVariants as build_end
 use Rattle.universe_parts.specs.Listed.{stanza_read}
 use Rattle.version_list.specs.Listings.{stanzas_read}
-use Rattle.universe.proofs.Whole.{whole-made, whole-end, whole-few, stanzas-same}
+use Rattle.universe.proofs.Whole.{whole-made, whole-end, stanzas-same}
 use Rattle.universe.proofs.Universe.build.Goals as goal
-
-pub of_stanzas-requires : goal.of_stanzas-requires
-of_stanzas-requires c =
-    let texts : Texts = record { status = c.args.status.now; packages = c.args.packages.now; native = c.args.arch.now } in
-    whole-few texts (stanzas_read c.as_slice.result.now c.as_slice-2.result.now) (stanzas-same texts (map stanza_read c.as_slice.result.now) (map stanza_read c.as_slice-2.result.now)
-    (ap (map stanza_read) c.as_slice.ensures.value ∙ c.in_ok-status.ensures.counted) (ap (map stanza_read) c.as_slice-2.ensures.value ∙ c.in_ok-packages.ensures.counted)) c.in_ok-status.ensures.sound c.in_ok-packages.ensures.sound
-    (c.groups_are_few.ensures texts (record { status = c.requires.status; packages = c.requires.packages }))
 
 pub returns : goal.returns
 returns c =
