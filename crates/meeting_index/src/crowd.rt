@@ -51,6 +51,7 @@ impl<'a> Crowd<'a> {
         ensures within { IfOk result (λ crowd. (bound : VersionBound) (c : ℕ) → crowd_has crowd (Some bound) c ≡ has_fitting by_version.entry.items bound c) }
     {
         let mut by_number = Vec::from_slice(alloc, by_version.as_slice())?;
+        // those of one number stay in the order of their versions
         by_number.sort_by_key(|carried| carried.number)?;
         let greatest = side_of(alloc, Side::Greatest, by_number.as_slice())?;
         by_number.reverse();

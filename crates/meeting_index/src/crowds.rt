@@ -4,9 +4,9 @@ ghost use Rattle.std.specs.Prelude.{◌≡◌, ℕ, true, ◌||◌, None, Some, 
 ghost use Rattle.std.specs.Option.{option_map};
 ghost use Rattle.std.specs.Map.{lookup};
 ghost use Rattle.ascii.specs.Texts.{is_same};
-ghost use Rattle.dep_fields.specs.Relationships.{VersionBound, bound_of};
+ghost use Rattle.dep_fields.specs.Relationships.{bound_of};
 ghost use Rattle.lists.specs.Sets.{has};
-ghost use Rattle.meeting_index.specs.Crowds.{AreRight, HasCrowd, HasEdge, IsCrowdOf, crowd_has, crowds_have, is_crowd, kept_has};
+ghost use Rattle.meeting_index.specs.Crowds.{AreRight, HasCrowd, HasEdge, IsCrowdOf, crowds_have, is_crowd};
 ghost use Rattle.meeting_index.specs.Finding.{Finds};
 ghost use Rattle.meeting_index.specs.Named.{has_same};
 ghost use Rattle.meeting_index.specs.Provided.{carriers_listed};
