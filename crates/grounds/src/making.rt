@@ -1,5 +1,5 @@
 // What a session stands on.
-ghost use Rattle.std.specs.Prelude.{◌≡◌, ◌≤◌, ℕ, length, IfOk, MatchResult, None};
+ghost use Rattle.std.specs.Prelude.{◌≡◌, ◌≤◌, ℕ, IfOk, MatchResult, None};
 ghost use Rattle.hint_effects.specs.Effects.{rules_of};
 ghost use Rattle.hint_file.specs.CostNames.{scene};
 ghost use Rattle.hint_file.specs.Prices.{table_of};
@@ -7,7 +7,6 @@ ghost use Rattle.resolve_words.specs.Given.{given_by};
 ghost use Rattle.run_status.specs.declared.Status.TheVariants as status;
 ghost use Rattle.search_core.specs.Begins.{MayBegin};
 ghost use Rattle.sources.specs.Sources.{sources_of};
-ghost use Rattle.universe_model.specs.Limits.{most_file_bytes};
 ghost use Rattle.universe_model.specs.Universes.{IsProblemOf, problem_from};
 ghost use Rattle.wanted.specs.Wanting.{starts_with, IsOf};
 ghost use Rattle.grounds.specs.Grounds.{price_refusal, refusal, IsRefused, IsGround};
@@ -82,8 +81,6 @@ fn begin_rules(alloc: Global, problem: &Problem, hints: &Hints) -> Result<Rules,
 /// levels of the cost spec, and the rules that the hints set. Else the first refusal: of the status and the packages text, then of
 /// the hints, of the actions, and of the prices; or `NoMemory`. A session may begin with these, and speak of that universe.
 pub fn make_ground(alloc: Global, settings: &Settings, sources: &Sources) -> Result<Ground, Status>
-    requires status { length sources.now.status.items ≤ most_file_bytes }
-    requires packages { length sources.now.packages.items ≤ most_file_bytes }
     ensures ground { MatchResult result (IsGround (given_by settings.now) (sources_of sources.now)) (IsRefused (refusal (given_by settings.now) (sources_of sources.now))) }
     ensures beside { IfOk result (λ ground. IsProblemOf ground.universe ground.basis.problem) }
     ensures begins { IfOk result (λ ground. (actors : ℕ) → 1 ≤ actors → MayBegin ground.basis.problem ground.basis.table ground.rules settings.now.slice actors) }

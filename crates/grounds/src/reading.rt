@@ -1,9 +1,8 @@
 // What the texts and the words of the settings say, or what refuses them.
-ghost use Rattle.std.specs.Prelude.{◌≡◌, ◌≤◌, length, map, string_bytes, IfOk, MatchResult, None};
+ghost use Rattle.std.specs.Prelude.{◌≡◌, map, string_bytes, IfOk, MatchResult, None};
 ghost use Rattle.hint_file.specs.Hinting.{hints_of, lines_of};
 ghost use Rattle.resolve_words.specs.Given.{given_by};
 ghost use Rattle.sources.specs.Sources.{sources_of};
-ghost use Rattle.universe_model.specs.Limits.{most_file_bytes};
 ghost use Rattle.wanted.specs.Wanting.{actions_of, IsOf};
 ghost use Rattle.grounds.specs.Grounds.{status_of_build, status_of_hint, texts_of, universe_of, text_refusal, hint_refusal, action_refusal, IsRefused};
 
@@ -45,8 +44,6 @@ pub fn read_universe(
     settings: &Settings,
     sources: &Sources,
 ) -> Result<Universe, Status>
-    requires status { length sources.now.status.items ≤ most_file_bytes }
-    requires packages { length sources.now.packages.items ≤ most_file_bytes }
     ensures { MatchResult result
         (λ universe. (text_refusal (texts_of (given_by settings.now) (sources_of sources.now)) ≡ None) × (universe ≡ universe_of (given_by settings.now) (sources_of sources.now)))
         (IsRefused (text_refusal (texts_of (given_by settings.now) (sources_of sources.now)))) }
