@@ -4,43 +4,65 @@ ghost use Rattle.std.specs.Prelude.{◌≡◌, ◌<◌, ◌&&◌, not, length, n
 ghost use Rattle.std.specs.List.{list_all, list_any};
 ghost use Rattle.lists.specs.Sets.{has};
 ghost use Rattle.resolver_model.specs.Problems.{changes, dependency, dependency_count, is_in_state, is_open, leave_of, package_count, state, version_count};
-ghost use Rattle.broken_deps.specs.Marks.{AreMarked, mark_of};
+ghost use Rattle.broken_deps.specs.Places.{AreNoted, Tells, place_of, with_version};
+ghost use Rattle.broken_deps.specs.declared.installed.Place.TheVariants.{One};
 
 use choice_set::ChoiceSet;
 use problem::Problem;
 
-// How many marks packages share.
-const MARKS: usize = 1024;
+// How many places packages share.
+const PLACES: usize = 1024;
 
-/// The versions that are there under a set. The packages that the set changes are marked, and a package without a mark has its
-/// start version.
+// What a set installs of the packages that share a place.
+#[derive(Clone, Copy, Debug, PartialEq, Eq)]
+enum Place {
+    Nothing,
+    // this version alone
+    One(u32),
+    // more than one
+    Several,
+}
+
+/// The versions that are there under a set. What the set installs is noted by package, in places that packages share, so that the
+/// set itself is looked into only where it installs several versions at a place.
 #[derive(Drop)]
 pub struct Installed<'a> {
     problem: &'a Problem,
     set: &'a ChoiceSet,
-    marks: [bool; MARKS],
-    ghost marked: { AreMarked problem.now marks set.now },
+    places: [Place; PLACES],
+    ghost noted: { AreNoted problem.now places set.now },
 }
 
-// The mark of a package, which other packages share.
-fn mark_of(package: u32) -> usize
-    ensures mark { result ≡ mark_of «package» }
+// The place of a package, which other packages share.
+fn place_of(package: u32) -> usize
+    ensures place { result ≡ place_of «package» }
     ensures range { result < 1024 }
 {
-    package as usize % MARKS
+    package as usize % PLACES
 }
 
-// The marks of the packages that a set changes.
-fn marks_of(problem: &Problem, set: &ChoiceSet) -> [bool; MARKS]
-    ensures { AreMarked problem.now result set.now }
+// A place with one version more.
+fn with_version(place: Place, version: u32) -> Place
+    ensures { result ≡ with_version place version }
 {
-    let mut marks = [false; MARKS];
+    match place {
+        Place::Nothing => Place::One(version),
+        Place::One(_) | Place::Several => Place::Several,
+    }
+}
+
+// What a set installs, by place.
+fn places_of(problem: &Problem, set: &ChoiceSet) -> [Place; PLACES]
+    ensures { AreNoted problem.now result set.now }
+{
+    let mut places = [Place::Nothing; PLACES];
     for choice in set.as_slice() {
         if *choice < problem.versions() {
-            marks[mark_of(problem.package_of(*choice))] = true;
+            let place = place_of(problem.package_of(*choice));
+            places[place] = with_version(places[place], *choice);
         }
     }
-    marks
+    places
 }
 
 impl<'a> Installed<'a> {
@@ -49,11 +71,11 @@ impl<'a> Installed<'a> {
         ensures problem { result.problem.now ≡ problem.now }
         ensures set { result.set.now ≡ set.now }
     {
-        let marks = marks_of(problem, set);
+        let places = places_of(problem, set);
         Installed {
             problem,
             set,
-            marks,
+            places,
         }
     }
 
@@ -62,8 +84,21 @@ impl<'a> Installed<'a> {
         requires { «package» < package_count self.now.problem.now }
         ensures { result ≡ state self.now.problem.now self.now.set.now «package» }
     {
-        if self.marks[mark_of(package)] {
-            self.problem.state(self.set, package)
+        match self.places[place_of(package)] {
+            Place::Nothing => self.problem.start_of(package),
+            Place::One(version) => self.one_or_start(package, version),
+            Place::Several => self.problem.state(self.set, package),
+        }
+    }
+
+    // The version of a package, where the set installs this version alone at the package's place.
+    fn one_or_start(&self, package: u32, version: u32) -> u32
+        requires range { «package» < package_count self.now.problem.now }
+        requires alone { Tells self.now.problem.now self.now.set.now «package» (One version) }
+        ensures { result ≡ state self.now.problem.now self.now.set.now «package» }
+    {
+        if self.problem.package_of(version) == package {
+            version
         } else {
             self.problem.start_of(package)
         }
