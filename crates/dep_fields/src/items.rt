@@ -10,6 +10,7 @@ use deb_version::Version;
 
 // A version bound without its `(`, with its `)`.
 #[tactic(auto, unfolding(crate::specs::Relationships::bound_at))]
+#[inline(always)]
 fn read_bound(text: &[u8]) -> Option<((Op, Version<'_>), &[u8])>
     ensures { option_map bound_view result ≡ bound_at text.now }
 {
@@ -19,6 +20,7 @@ fn read_bound(text: &[u8]) -> Option<((Op, Version<'_>), &[u8])>
     Some(((op, version), rest))
 }
 
+#[inline(always)]
 fn read_some_bound(text: &[u8]) -> Option<(Option<(Op, Version<'_>)>, &[u8])>
     ensures { option_map rel_view result ≡ option_map some_bound (bound_at text.now) }
 {
@@ -28,6 +30,7 @@ fn read_some_bound(text: &[u8]) -> Option<(Option<(Op, Version<'_>)>, &[u8])>
 
 // A version bound, or none where no `(` stands.
 #[tactic(auto, unfolding(crate::specs::Relationships::rel_at))]
+#[inline(always)]
 fn read_rel(text: &[u8]) -> Option<(Option<(Op, Version<'_>)>, &[u8])>
     ensures { option_map rel_view result ≡ rel_at text.now }
 {
@@ -39,6 +42,7 @@ fn read_rel(text: &[u8]) -> Option<(Option<(Op, Version<'_>)>, &[u8])>
 
 // An item and what stands behind it and its blanks.
 #[tactic(auto, unfolding(crate::specs::Relationships::relationship_at))]
+#[inline(always)]
 fn read_front(text: &[u8]) -> Option<(Item<'_>, &[u8])>
     ensures { option_map item_view result ≡ relationship_at text.now }
 {
@@ -50,6 +54,7 @@ fn read_front(text: &[u8]) -> Option<(Item<'_>, &[u8])>
 
 // The item that a text spells, or why it spells none.
 #[tactic(auto, unfolding(crate::specs::Relationships::relationship_of))]
+#[inline(always)]
 pub fn read_item(text: &[u8]) -> Result<Item<'_>, RelKind>
     ensures { outcome result ≡ relationship_of text.now }
 {
