@@ -1,18 +1,18 @@
 -- Names whose slots are marked.
-use Rattle.std.proofs.Common.{◌≡◌, ◌<◌, ◌%◌, ℕ, ◌∙◌, sym, ap, refl, List, [], ◌∷◌, ◌++◌, length, Bool, true, false, ◌||◌, nat_eq, get_or, set, arith}
+use Rattle.std.proofs.Common.{◌≡◌, ◌<◌, ℕ, ◌∙◌, sym, ap, refl, List, [], ◌∷◌, ◌++◌, length, Bool, true, false, ◌||◌, nat_eq, get_or, set, arith}
 use Rattle.std.specs.List.{list_all}
-use Rattle.std.specs.Str.{str_eq_ignore_ascii_case}
+use Rattle.std.specs.Str.{str_eq_ignore_ascii_case, str_to_ascii_lowercase}
+use Rattle.std.proofs.lemmas.Slice.Eq.{bytes_eq-Decides}
 use Rattle.std.proofs.lemmas.Bool.{and_from, and_parts}
 use Rattle.std.proofs.lemmas.Bool.Decides.{nat_tests}
 use Rattle.std.proofs.lemmas.List.{get_or-set_same, get_or-set_other}
 use Rattle.lists.proofs.Tests.{list_all-end}
-use Rattle.control_file.specs.Tags.{slot_of, AreMarked}
+use Rattle.control_file.specs.Tags.{slot_at, slot_of, AreMarked}
 use Rattle.control_file.specs.Text.{is_among}
-use Rattle.control_file.proofs.TagsOfNames.{same-tag}
 
 -- names that differ only in ASCII case have one slot
 same-slot : (a b : List ℕ) → str_eq_ignore_ascii_case a b ≡ true → slot_of a ≡ slot_of b
-same-slot a b e = ap (λ tag. tag % 8192) (same-tag a b e)
+same-slot a b e = ap slot_at ((bytes_eq-Decides (str_to_ascii_lowercase a) (str_to_ascii_lowercase b)).0 e)
 
 abbrev has_mark : List ℕ → ℕ → List ℕ → Bool
 has_mark marks mark name = nat_eq (get_or marks (slot_of name) 0) mark

@@ -1,5 +1,5 @@
 -- Names that have tags.
-use Rattle.std.proofs.Common.{◌≡◌, ◌==◌, ℕ, ◌∙◌, sym, ap, refl, List, [], ◌∷◌, Bool, true, false, ◌||◌, nat_eq, map, arith}
+use Rattle.std.proofs.Common.{◌≡◌, ◌==◌, ℕ, ap, refl, List, [], ◌∷◌, Bool, true, false, ◌||◌, map, arith}
 use Rattle.std.specs.List.{list_any}
 use Rattle.std.specs.Str.{str_eq_ignore_ascii_case, str_to_ascii_lowercase}
 use Rattle.std.proofs.lemmas.Bool.Decides.{nat_tests}

@@ -10,7 +10,8 @@ ghost use Rattle.control_file.specs.Text.{Line, paragraphs_of, cut, without_last
 ghost use Rattle.control_file.specs.Answers.{answer_of, behind_first, Reads, Leaves, is_paragraph_next};
 ghost use Rattle.control_file.specs.Fields.{field_text};
 ghost use Rattle.control_file.specs.Laws.{ParagraphsStandIn, FirstFaultIsFirst, AreRunsOf};
-ghost use Rattle.control_file.specs.Tags.{tag_of};
+ghost use Rattle.control_file.specs.Tags.{tag_of, slot_by, slot_of};
+ghost use Rattle.std.specs.Char.{to_ascii_lowercase};
 ghost use Rattle.control_file.specs.Passes.{IsFirstLine, own_names, may_begin, fault_before_colon, fault_of_name, SkipsBlank, SkipsContinued, Scans, TakesField, at_line, faulty};
 
 use ascii::is_space;
@@ -200,22 +201,36 @@ fn tag(name: &[u8]) -> u64
 // How many slots names are marked in.
 const SLOTS: usize = 8192;
 
-// The slot of the names that have a tag.
-fn slot(tag: u64) -> usize
-    ensures slot { result ≡ tag % 8192 }
+// The slot of the names that begin and end with these bytes and have so many.
+fn slot_by(first: u8, last: u8, len: usize) -> usize
+    ensures slot { result ≡ slot_by (to_ascii_lowercase first) (to_ascii_lowercase last) len }
     ensures range { result < 8192 }
 {
-    (tag % SLOTS as u64) as usize
+    let first = usize::from(first.to_ascii_lowercase());
+    let last = usize::from(last.to_ascii_lowercase());
+    (first * 31 + last + len % 64 * 127) % SLOTS
+}
+
+// The slot of a name, the same for names that differ only in ASCII case.
+fn slot(name: &[u8]) -> usize
+    ensures slot { result ≡ slot_of name.now }
+    ensures range { result < 8192 }
+{
+    if name.is_empty() {
+        return 0;
+    }
+    slot_by(name[0], name[name.len() - 1], name.len())
 }
 
 // The names of a paragraph's fields so far, in a room that each paragraph uses anew. The slot of each of them has the mark,
-// so that a name without it is none of them. Each has its tag beside it too: where names share a slot, the tags alone are
-// looked through, many at a time.
+// so that a name without it is none of them. Where names share a slot, they get tags, each of them once, and the tags alone
+// are looked through, many at a time.
 #[derive(Drop)]
 struct Names<'a> {
     items: [&'a [u8]; MOST_FIELDS],
-    tags: [u64; MOST_FIELDS],
     len: usize,
+    tags: [u64; MOST_FIELDS],
+    tagged: usize,
     marks: [u16; SLOTS],
     mark: u16,
 }
@@ -229,7 +244,7 @@ impl<'a> Model for Names<'a> {
 
     ghost use Rattle.control_file.specs.Tags.{AreTagged, AreMarked};
 
-    ghost invariant = { λ names. (names.len ≤ 1024) × AreTagged names.tags names.len (map (λ name. name.now) (take names.len names.items)) × AreMarked names.marks names.mark (map (λ name. name.now) (take names.len names.items)) };
+    ghost invariant = { λ names. (names.len ≤ 1024) × (names.tagged ≤ names.len) × AreTagged names.tags names.tagged (map (λ name. name.now) (take names.tagged names.items)) × AreMarked names.marks names.mark (map (λ name. name.now) (take names.len names.items)) };
 }
 
 impl<'a> Names<'a> {
@@ -238,8 +253,9 @@ impl<'a> Names<'a> {
     {
         Names {
             items: [&[]; MOST_FIELDS],
-            tags: [0; MOST_FIELDS],
             len: 0,
+            tags: [0; MOST_FIELDS],
+            tagged: 0,
             marks: [0; SLOTS],
             mark: 0,
         }
@@ -249,6 +265,7 @@ impl<'a> Names<'a> {
         ensures { self.new ≡ [] }
     {
         self.len = 0;
+        self.tagged = 0;
         self.mark = self.mark.wrapping_add(1);
     }
 
@@ -259,43 +276,49 @@ impl<'a> Names<'a> {
         self.len
     }
 
-    // Whether a name with this tag is there.
-    fn contains(&self, name: &[u8], tag: u64) -> bool
-        requires { tag ≡ tag_of name.now }
-        ensures { result ≡ is_among name.now self.now }
+    // Whether a name is there whose slot may have the mark.
+    fn contains(&mut self, name: &[u8], slot: usize) -> bool
+        requires slot { slot ≡ slot_of name.now }
+        requires range { slot < 8192 }
+        ensures answer { result ≡ is_among name.now self.old }
+        ensures same { self.new ≡ self.old }
     {
-        if self.marks[slot(tag)] != self.mark {
+        if self.marks[slot] != self.mark {
             return false;
         }
-        if !self.tags[..self.len].contains(&tag) {
+        for place in self.tagged..self.len {
+            self.tags[place] = tag(self.items[place]);
+        }
+        self.tagged = self.len;
+        if !self.tags[..self.len].contains(&tag(name)) {
             return false;
         }
         is_any_same(&self.items[..self.len], name)
     }
 
-    fn push(&mut self, name: &'a [u8], tag: u64)
+    fn push(&mut self, name: &'a [u8], slot: usize)
         requires few { length self.old < 1024 }
-        requires tag { tag ≡ tag_of name.now }
+        requires slot { slot ≡ slot_of name.now }
+        requires range { slot < 8192 }
         ensures { self.new ≡ self.old ++ name.now ∷ [] }
     {
         self.items[self.len] = name;
-        self.tags[self.len] = tag;
         self.len += 1;
-        self.marks[slot(tag)] = self.mark;
+        self.marks[slot] = self.mark;
     }
 
     // Adds the name of a field, unless it is there or there are as many as a paragraph may have.
     fn add(&mut self, name: &'a [u8]) -> Result<(), CtlKind>
         ensures { MatchResult result (λ _. (fault_of_name self.old name.now ≡ None) × (self.new ≡ self.old ++ name.now ∷ [])) (λ kind. fault_of_name self.old name.now ≡ Some kind) }
     {
-        let tag = tag(name);
-        if self.contains(name, tag) {
+        let slot = slot(name);
+        if self.contains(name, slot) {
             return Err(CtlKind::Twice);
         }
         if self.len() >= MOST_FIELDS {
             return Err(CtlKind::ManyFields);
         }
-        self.push(name, tag);
+        self.push(name, slot);
         Ok(())
     }
 }
