@@ -65,7 +65,7 @@ fn add_dep(
     targets: &[u32],
     soft: bool,
 ) -> Option<()> {
-    let count = builder.problem().versions();
+    let count = builder.parts().versions();
     if source >= count {
         return None;
     }

@@ -37,7 +37,7 @@ fn versions_of(alloc: Global, count: u32, items: &[u32]) -> Result<ChoiceSet, No
 
 // Adds a hard dependency.
 pub fn add_dep(alloc: Global, builder: &mut Builder, source: u32, targets: &[u32]) -> Option<()> {
-    let count = builder.problem().versions();
+    let count = builder.parts().versions();
     if source >= count {
         return None;
     }

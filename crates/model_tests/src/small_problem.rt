@@ -26,7 +26,7 @@ fn two_packages(alloc: Global) -> Result<Problem, Fail>
     let mut builder = Builder::new(alloc);
     add_pair(&mut builder, 1)?;
     add_pair(&mut builder, 0)?;
-    if builder.problem().versions() != 4 {
+    if builder.parts().versions() != 4 {
         return Err(Fail::new("four versions"));
     }
     builder.add_dep(1, &[3], true)?;

@@ -1,7 +1,7 @@
 -- A problem that is kept stays so with one more package.
-use Rattle.std.proofs.Common.{inl, inr, ◌≡◌, ◌<◌, ◌≤◌, ◌⊎◌, ◌+◌, ◌-◌, ℕ, List, [], ◌∷◌, ◌++◌, true, false, length, get_or, replicate, refl, ap, sym, ◌∙◌, arith, nat_lt, subst, length-append, None, take, map, ◌&&◌}
+use Rattle.std.proofs.Common.{inl, inr, ◌≡◌, ◌<◌, ◌≤◌, ◌⊎◌, ◌+◌, ◌-◌, ℕ, List, [], ◌∷◌, ◌++◌, true, false, length, get_or, replicate, refl, ap, sym, ◌∙◌, arith, nat_lt, subst, length-append, None, ◌&&◌}
 use Rattle.std.proofs.lemmas.List.{length-replicate, get_or_append_left, get_or-append-add, get_or-replicate}
-use Rattle.std.proofs.Math.Seq.{get_or-append_seam, take-append_seam}
+use Rattle.std.proofs.Math.Seq.{get_or-append_seam}
 use Rattle.std.proofs.Math.Nat.{eq-or-lt_of_le}
 use Rattle.std.specs.List.{list_all}
 use Rattle.std.proofs.lemmas.List.Sums.{sum_by_push}
@@ -11,9 +11,7 @@ use Rattle.lists.specs.Sets.{is_rising}
 use Rattle.resolver_model.specs.Problems.{Problem, Dependency, IsWellFormed, package_count, version_count, package_of, start_of, dependency, dependency_count}
 use Rattle.problem.specs.Limits.{IsWithinLimits, package_refusal, dependency_refusal, target_count, most_packages, most_versions, most_dependencies, most_targets}
 use Rattle.problem.specs.Builds.{with_package, with_dependency, with_starts}
-use Rattle.problem.specs.Touching.{broken_at_start, is_unmet}
-use Rattle.problem.specs.Indexes.{Index, IsIndexOf, with_room, cut_to, with_dep}
-use Rattle.problem.proofs.Indexes.{index_with_package, index_with_starts, index_with_dep, old_dependency, new_dependency}
+use Rattle.problem.proofs.Indexes.{old_dependency, new_dependency}
 use Rattle.problem.specs.Places.{IsKept, IsOneOfEach}
 use Rattle.problem.proofs.Ranges.{firsts_added}
 
@@ -99,9 +97,9 @@ formed_added p w present start le e max = record {
               subst P (sym at) (omega (arith, new_size p present, old.0), own)
         ]
 
-pub package_kept : (p : Problem) (firsts : List ℕ) (index : Index) → IsKept p firsts index → (present start : ℕ) → start ≤ present → p.dependencies ≡ [] → package_refusal p present ≡ None
-    → IsKept (with_package p present start) (firsts ++ version_count p ∷ []) (with_room index (present + 1))
-package_kept p firsts index h present start le e max =
+pub package_kept : (p : Problem) (firsts : List ℕ) → IsKept p firsts → (present start : ℕ) → start ≤ present → p.dependencies ≡ [] → package_refusal p present ≡ None
+    → IsKept (with_package p present start) (firsts ++ version_count p ∷ [])
+package_kept p firsts h present start le e max =
     let few = not_refused p present max in
     let within : IsWithinLimits (with_package p present start) = record {
       packages = omega (arith, few.0, length-append p.starts ((version_count p + start) ∷ []));
@@ -113,13 +111,11 @@ package_kept p firsts index h present start le e max =
       formed = formed_added p h.formed present start le e few.1;
       within = within;
       places = firsts_added p h.formed firsts h.places present start;
-      listed = index_with_package p index h.listed present start e;
     }
 
 -- and so does one with other starts
-pub starts_kept : (p : Problem) (firsts : List ℕ) (index : Index) → IsKept p firsts index → (starts broken : List ℕ) → IsOneOfEach p starts → broken ≡ broken_at_start (with_starts p starts)
-    → IsKept (with_starts p starts) firsts (record { of = index.of; on = index.on; touching = index.touching; broken = broken })
-starts_kept p firsts index h starts broken each e =
+pub starts_kept : (p : Problem) (firsts : List ℕ) → IsKept p firsts → (starts : List ℕ) → IsOneOfEach p starts → IsKept (with_starts p starts) firsts
+starts_kept p firsts h starts each =
     let formed : IsWellFormed (with_starts p starts) = record {
       owners = λ v lt. omega (arith, each.size, h.formed.owners v lt);
       together = h.formed.together;
@@ -139,17 +135,7 @@ starts_kept p firsts index h starts broken each e =
       formed = formed;
       within = within;
       places = record { size = h.places.size ∙ sym each.size; each = λ q lt. h.places.each q (omega (arith, each.size, lt)) };
-      listed = index_with_starts p index h.listed starts broken each.size e;
     }
-
--- The index with room for a package, cut to what it was.
-pub cut_back : (p : Problem) (index : Index) → IsIndexOf p index → (count : ℕ) → cut_to (with_room index count) (version_count p) (package_count p) ≡ index
-cut_back p index h count =
-    let of : take (version_count p) (index.of ++ replicate count []) ≡ index.of = ap (λ n. take n (index.of ++ replicate count [])) (sym h.of.size) ∙ take-append_seam index.of (replicate count []) in
-    let on : take (version_count p) (index.on ++ replicate count []) ≡ index.on = ap (λ n. take n (index.on ++ replicate count [])) (sym h.on.size) ∙ take-append_seam index.on (replicate count []) in
-    let touched : take (package_count p) (index.touching ++ [] ∷ []) ≡ index.touching =
-    ap (λ n. take n (index.touching ++ [] ∷ [])) (sym h.touching.size) ∙ take-append_seam index.touching ([] ∷ []) in
-    rw (of, on, touched) refl
 
 -- equal parts make equal problems, and one is kept for the other
 abbrev pub problem_of : List ℕ → List ℕ → List Dependency → Problem
@@ -158,15 +144,15 @@ problem_of owners starts dependencies = record { owners = owners; starts = start
 pub problem_same : {o u s t : List ℕ} {d e : List Dependency} → o ≡ u → s ≡ t → d ≡ e → problem_of o s d ≡ problem_of u t e
 problem_same {u = u} {s = s} {t = t} {d = d} eo es ed = ap (λ x. problem_of x s d) eo ∙ ap (λ x. problem_of u x d) es ∙ ap (λ x. problem_of u t x) ed
 
-pub kept_as : {p q : Problem} {f g : List ℕ} {i j : Index} → p ≡ q → f ≡ g → i ≡ j → IsKept q g j → IsKept p f i
-kept_as {q = q} {f = f} {g = g} {i = i} e k l h = subst (λ r. IsKept r f i) (sym e) (subst (λ r. IsKept q r i) (sym k) (subst (λ r. IsKept q g r) (sym l) h))
+pub kept_as : {p q : Problem} {f g : List ℕ} → p ≡ q → f ≡ g → IsKept q g → IsKept p f
+kept_as {q = q} {f = f} e k h = subst (λ r. IsKept r f) (sym e) (subst (λ r. IsKept q r) (sym k) h)
 
 -- A problem that is kept stays so with one more dependency.
-pub dependency_kept : (p : Problem) (firsts : List ℕ) (index : Index) → IsKept p firsts index → (x : Dependency) → x.source < version_count p → is_rising x.targets ≡ true
+pub dependency_kept : (p : Problem) (firsts : List ℕ) → IsKept p firsts → (x : Dependency) → x.source < version_count p → is_rising x.targets ≡ true
     → list_all (λ v. nat_lt v (version_count p)) x.targets ≡ true → dependency_refusal p x.targets ≡ None
-    → IsKept (with_dependency p x) firsts (with_dep index (dependency_count p) x.source x.targets (map (package_of p) (x.source ∷ x.targets)) (is_unmet p x.source x.targets))
-dependency_kept p firsts index h x low rise range max =
-    record { formed = formed; within = within; places = record { size = h.places.size; each = h.places.each }; listed = index_with_dep p index h.listed x }
+    → IsKept (with_dependency p x) firsts
+dependency_kept p firsts h x low rise range max =
+    record { formed = formed; within = within; places = record { size = h.places.size; each = h.places.each } }
   where
     few : (dependency_count p + 1 ≤ most_dependencies) × (target_count p + length x.targets ≤ most_targets)
     few = (grind (arith, nat_tests, max), grind (arith, nat_tests, max))

@@ -8,3 +8,7 @@ pub mod Installs
 pub mod Halving
 pub mod Listing
 pub mod Indexes
+pub mod Spans
+pub mod Counting
+pub mod Filling
+pub mod Laying

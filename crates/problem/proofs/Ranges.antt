@@ -10,7 +10,6 @@ use Rattle.std.proofs.lemmas.Bool.{le-leb, ltb-true, lt-ltb, le-ltb, ltb-false}
 use Rattle.std.proofs.lemmas.Bool.Decides.{nat_tests}
 use Rattle.resolver_model.specs.Problems.{Problem, IsWellFormed, package_count, version_count, package_of, start_of}
 use Rattle.problem.specs.Builds.{with_package}
-use Rattle.problem.specs.Indexes.{Index}
 use Rattle.problem.specs.Places.{absent_of, end_of, AreFirsts, IsKept}
 
 -- each number of the list is at most the next
@@ -167,18 +166,18 @@ firsts_added p w firsts h present start =
         ]
 
 -- what the table of first versions says
-pub first_at : (p : Problem) (firsts : List ℕ) {index : Index} → IsKept p firsts index → (q v : ℕ) → q < package_count p → v ≡ get_or firsts q v → v ≡ absent_of p q
+pub first_at : (p : Problem) (firsts : List ℕ) → IsKept p firsts → (q v : ℕ) → q < package_count p → v ≡ get_or firsts q v → v ≡ absent_of p q
 first_at p firsts h q v lt e =
     let size : q < length firsts = omega (arith, h.places.size) in
     get_or_read firsts q v size e 0 ∙ h.places.each q lt
 
-pub first_range : (p : Problem) (firsts : List ℕ) {index : Index} → IsKept p firsts index → (q v : ℕ) → q < package_count p → v ≡ get_or firsts q v → v < version_count p
+pub first_range : (p : Problem) (firsts : List ℕ) → IsKept p firsts → (q v : ℕ) → q < package_count p → v ≡ get_or firsts q v → v < version_count p
 first_range p firsts h q v lt e = omega (arith, first_at p firsts h q v lt e, absent_of-range p h.formed q lt)
 
-pub first_own : (p : Problem) (firsts : List ℕ) {index : Index} → IsKept p firsts index → (q v : ℕ) → q < package_count p → v ≡ get_or firsts q v → package_of p v ≡ q
+pub first_own : (p : Problem) (firsts : List ℕ) → IsKept p firsts → (q v : ℕ) → q < package_count p → v ≡ get_or firsts q v → package_of p v ≡ q
 first_own p firsts h q v lt e = ap (package_of p) (first_at p firsts h q v lt e) ∙ absent_of-own p h.formed q lt
 
-pub end_from_next : (p : Problem) (firsts : List ℕ) {index : Index} → IsKept p firsts index → (q v : ℕ) → q + 1 < package_count p → v ≡ get_or firsts (q + 1) v → v ≡ end_of p q
+pub end_from_next : (p : Problem) (firsts : List ℕ) → IsKept p firsts → (q v : ℕ) → q + 1 < package_count p → v ≡ get_or firsts (q + 1) v → v ≡ end_of p q
 end_from_next p firsts h q v lt e = first_at p firsts h (q + 1) v lt e ∙ sym (end_of-next p q)
 
 pub end_at_last : (p : Problem) → IsWellFormed p → (q : ℕ) → q < package_count p → package_count p ≤ q + 1 → version_count p ≡ end_of p q

@@ -3,6 +3,7 @@ pub mod Limits
 pub mod Builds
 pub mod Tables
 pub mod Listing
+pub mod Rooms
 pub mod Touching
 pub mod Indexes
 pub mod Places

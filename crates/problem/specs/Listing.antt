@@ -1,10 +1,6 @@
 -- Lists of dependencies by number, and what it is to note one more dependency in them.
-use Rattle.std.specs.Prelude.{Vec, ℕ, ◌-◌, Bool, ◌&&◌, List, [], ◌∷◌, ◌++◌, length, slice_index, slice_index_or, nat_lt, ◌==◌, if◌then◌else◌, map, take, set}
+use Rattle.std.specs.Prelude.{ℕ, ◌-◌, Bool, ◌&&◌, List, [], ◌∷◌, ◌++◌, length, slice_index, slice_index_or, nat_lt, ◌==◌, if◌then◌else◌, take, set}
 use Rattle.std.specs.List.{fold}
-use Rattle.std.specs.declared.alloc.Global.{Global}
-
-abbrev pub items_of : List (Vec ℕ Global) → List (List ℕ)
-items_of lists = map (λ list. list.items) lists
 
 abbrev pub ends_in : ℕ → List ℕ → Bool
 ends_in d list = nat_lt 0 (length list) && (slice_index list (length list - 1) == d)

@@ -3,7 +3,6 @@ use Rattle.std.specs.Prelude.{◌≡◌, ◌<◌, ℕ, List, length, nat_lt, nat
 use Rattle.std.specs.List.{count_by}
 use Rattle.resolver_model.specs.Problems.{Problem, IsWellFormed, package_count, package_of, version_count}
 use Rattle.problem.specs.Limits.{IsWithinLimits}
-use Rattle.problem.specs.Indexes.{Index, IsIndexOf}
 
 -- the number of versions of earlier packages
 abbrev pub absent_of : Problem → ℕ → ℕ
@@ -18,12 +17,11 @@ pub record AreFirsts (p : Problem) (firsts : List ℕ) : Type 0 where
   pub size : length firsts ≡ package_count p
   pub each : (q : ℕ) → q < package_count p → slice_index firsts q ≡ absent_of p q
 
--- What holds of a problem, its table of first versions, and its index.
-pub record IsKept (p : Problem) (firsts : List ℕ) (index : Index) : Type 0 where
+-- What holds of a problem and its table of first versions.
+pub record IsKept (p : Problem) (firsts : List ℕ) : Type 0 where
   pub formed : IsWellFormed p
   pub within : IsWithinLimits p
   pub places : AreFirsts p firsts
-  pub listed : IsIndexOf p index
 
 -- one version of each package, in order
 pub record IsOneOfEach (p : Problem) (versions : List ℕ) : Type 0 where

@@ -1,25 +1,37 @@
-// Lists of dependencies, one for each number: for each version, or for each package.
-ghost use Rattle.std.specs.Prelude.{◌≡◌, ◌<◌, ◌++◌, ◌∷◌, ℕ, List, [], length, slice_index_or, replicate, is_ok, if◌then◌else◌, IfOk, OnOk, IsTrue, map, take, nat_lt, set};
+// Lists of dependencies, one for each number: for each version, or for each package. They stand one behind another in one table.
+ghost use Rattle.std.specs.Prelude.{◌≡◌, ◌<◌, ◌≤◌, ◌∷◌, ℕ, [], length, slice_index_or, if◌then◌else◌, is_ok, IfOk, IsTrue, nat_lt};
 ghost use Rattle.std.specs.List.{list_all};
-ghost use Rattle.problem.specs.Listing.{items_of, ends_in, with_end, without_end, noted, noted_all};
+ghost use Rattle.problem.specs.Listing.{ends_in, with_end, without_end};
+ghost use Rattle.problem.specs.Rooms.{AreSpans, laid_of, list_of, room_of, can_note, with_put, with_noted};
 
 use choice_set::NoMemory;
 use std::alloc::Global;
 use std::marker::Model;
 
+/// Where a list stands in a table: from `first` to before `end`.
+#[derive(Clone, Copy, Debug, Drop)]
+pub struct Span {
+    pub first: u32,
+    pub end: u32,
+}
+
 /// The lists by number.
 #[derive(Debug, Drop)]
 pub struct DepLists {
-    lists: Vec<Vec<u32>>,
+    spans: Vec<Span>,
+    table: Vec<u32>,
 }
 
 impl Model for DepLists {
-    ghost use Rattle.std.specs.Prelude.{List, ℕ};
-    ghost use Rattle.problem.specs.Listing.{items_of};
+    ghost use Rattle.problem.specs.Rooms as model;
+    ghost use Rattle.problem.specs.Rooms.{AreSpans, laid_of};
+    ghost use Rattle.std.specs.Prelude.{length};
 
-    ghost Value = { List (List ℕ) };
+    ghost Value = { model.Laid };
 
-    ghost view = { λ l. items_of l.lists.items };
+    ghost view = { λ l. laid_of l.spans.items l.table.items };
+
+    ghost invariant = { λ l. AreSpans l.spans.items (length l.table.items) };
 }
 
 // Whether the dependency is the last of the list.
@@ -49,100 +61,65 @@ pub fn drop_end(list: &mut Vec<u32>, dep: u32)
     }
 }
 
-// One more list, with no dependency.
-fn push_list(alloc: Global, lists: &mut Vec<Vec<u32>>, list: &[u32]) -> Result<(), NoMemory>
-    ensures { items_of lists.new.items ≡ (if is_ok result then items_of lists.old.items ++ list.now ∷ [] else items_of lists.old.items) }
+// The list that stands at a place of the table.
+fn list_of(table: &[u32], span: Span) -> &[u32]
+    requires first { span.first ≤ span.end }
+    requires end { span.end ≤ length table.now }
+    ensures { result.now ≡ list_of table.now span }
 {
-    let copy = Vec::from_slice(alloc, list)?;
-    Ok(lists.push(copy)?)
+    &table[span.first as usize..span.end as usize]
 }
 
 impl DepLists {
-    /// No lists.
-    pub fn new(alloc: Global) -> DepLists
-        ensures { result ≡ [] }
+    /// The lists that stand at these places of the table.
+    pub fn new(spans: Vec<Span>, table: Vec<u32>) -> DepLists
+        requires { AreSpans spans.items (length table.items) }
+        ensures { result ≡ laid_of spans.items table.items }
     {
-        DepLists {
-            lists: Vec::new(alloc),
-        }
+        DepLists { spans, table }
     }
 
     /// The list with a number.
     pub fn list(&self, number: usize) -> &[u32]
-        requires { number < length self.now }
-        ensures { result.now ≡ slice_index_or self.now number [] }
+        requires { number < length self.now.lists }
+        ensures { result.now ≡ slice_index_or self.now.lists number [] }
     {
-        self.lists[number].as_slice()
+        list_of(self.table.as_slice(), self.spans[number])
     }
 
-    // Adds empty lists; some of them may be there after want of memory.
-    fn grow(&mut self, count: usize) -> Result<(), NoMemory>
-        ensures grown { OnOk result (self.new ≡ self.old ++ replicate count []) }
-        ensures rest { take (length self.old) self.new ≡ self.old }
+    // Adds a dependency at the end of a list that has room for it.
+    fn put(&mut self, number: usize, dep: u32)
+        requires number { number < length self.old.lists }
+        requires room { length (slice_index_or self.old.lists number []) < room_of self.old number }
+        ensures { self.new ≡ with_put self.old number dep }
     {
-        let alloc = *self.lists.allocator();
-        for _made in 0..count {
-            push_list(alloc, &mut self.lists, &[])?;
+        let span = self.spans[number];
+        self.table[span.end as usize] = dep;
+        self.spans[number] = Span {
+            first: span.first,
+            end: span.end + 1,
+        };
+    }
+
+    /// Adds a dependency at the end of a list, unless it is the last of it already.
+    pub fn note(&mut self, number: u32, dep: u32)
+        requires number { number < length self.old.lists }
+        requires room { IsTrue (can_note self.old dep number) }
+        ensures { self.new ≡ with_noted self.old dep (number ∷ []) }
+    {
+        if !is_last(self.list(number as usize), dep) {
+            self.put(number as usize, dep);
         }
-        Ok(())
     }
 
-    /// Adds as many empty lists.
-    pub fn add(&mut self, count: usize) -> Result<(), NoMemory>
-        ensures { self.new ≡ (if is_ok result then self.old ++ replicate count [] else self.old) }
-    {
-        let old = self.lists.len();
-        match self.grow(count) {
-            Ok(()) => Ok(()),
-            Err(end) => {
-                self.lists.truncate(old);
-                Err(end)
-            }
-        }
-    }
-
-    /// Leaves this many lists from the front.
-    pub fn cut(&mut self, count: usize)
-        ensures { self.new ≡ take count self.old }
-    {
-        self.lists.truncate(count);
-    }
-
-    // Adds a dependency at the end of one list.
-    fn note_one(&mut self, number: usize, dep: u32) -> Result<(), NoMemory>
-        requires { number < length self.old }
-        ensures { self.new ≡ (if is_ok result then noted dep self.old number else self.old) }
-    {
-        add_end(&mut self.lists[number], dep)
-    }
-
-    /// Adds a dependency at the end of each list whose number is given, and once where a number is given again. Some of
-    /// them may have it after want of memory.
-    pub fn note(&mut self, numbers: &[u32], dep: u32) -> Result<(), NoMemory>
-        requires { IsTrue (list_all (λ k. nat_lt k (length self.old)) numbers.now) }
-        ensures noted { OnOk result (self.new ≡ noted_all dep self.old numbers.now) }
-        ensures rest { map (without_end dep) self.new ≡ map (without_end dep) self.old }
+    /// Adds a dependency at the end of each list whose number is given.
+    pub fn note_all(&mut self, numbers: &[u32], dep: u32)
+        requires numbers { IsTrue (list_all (λ k. nat_lt k (length self.old.lists)) numbers.now) }
+        requires room { IsTrue (list_all (can_note self.old dep) numbers.now) }
+        ensures { self.new ≡ with_noted self.old dep numbers.now }
     {
         for number in numbers {
-            self.note_one(*number as usize, dep)?;
-        }
-        Ok(())
-    }
-
-    // Takes the dependency off one list, if that ends in it.
-    fn clear_one(&mut self, number: usize, dep: u32)
-        requires { number < length self.old }
-        ensures { self.new ≡ set self.old number (without_end dep (slice_index_or self.old number [])) }
-    {
-        drop_end(&mut self.lists[number], dep);
-    }
-
-    /// Takes the dependency off all lists that end in it.
-    pub fn clear(&mut self, dep: u32)
-        ensures { self.new ≡ map (without_end dep) self.old }
-    {
-        for number in 0..self.lists.len() {
-            self.clear_one(number, dep);
+            self.note(*number, dep);
         }
     }
 
@@ -150,10 +127,8 @@ impl DepLists {
     pub fn copy(&self, alloc: Global) -> Result<DepLists, NoMemory>
         ensures { IfOk result (λ copy. copy ≡ self.now) }
     {
-        let mut lists = Vec::new(alloc);
-        for list in &self.lists {
-            push_list(alloc, &mut lists, list.as_slice())?;
-        }
-        Ok(DepLists { lists })
+        let spans = Vec::from_slice(alloc, self.spans.as_slice())?;
+        let table = Vec::from_slice(alloc, self.table.as_slice())?;
+        Ok(DepLists { spans, table })
     }
 }

@@ -139,7 +139,7 @@ fn add_anew<'a>(
     ensures kept { OnOk result (AreRows (setting_of index.now collected.old) room.new.answers) }
 {
     let extent = room.answers.extent_for(key, own, collected.past);
-    let problem = collected.builder.problem();
+    let problem = collected.builder.parts();
     list_row(index, problem, item, extent, &mut room.walk)?;
     let listed = &room.walk.listed;
     if let Some(key) = key {

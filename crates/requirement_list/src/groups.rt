@@ -18,7 +18,7 @@ use crate::collected::{Collected, Field};
 use crate::installed::is_installed;
 use dep_fields::{AlternativesField, Group};
 use meeting_index::MeetingIndex;
-use problem::Problem;
+use problem::Parts;
 use universe_model::BuildEnd;
 
 // Lists the targets of a group.
@@ -74,7 +74,7 @@ pub fn add_groups<'a>(
 // one of its items.
 fn is_broken<'a>(
     installed: &MeetingIndex<'_, 'a>,
-    problem: &Problem,
+    problem: &Parts,
     source: u32,
     group: &Group<'a>,
 ) -> bool
@@ -100,7 +100,7 @@ fn add_recommended<'a>(
     ensures { let s = setting_of indexes.now.all collected.old in
         Adds (filter (λ r. not (is_broken_now s r)) (recommended s source place (group_items group.now) ∷ [])) collected.old result collected.new }
 {
-    let problem = collected.builder.problem();
+    let problem = collected.builder.parts();
     if is_broken(&indexes.installed, problem, source, group) {
         return Ok(());
     }

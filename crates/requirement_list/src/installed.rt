@@ -7,12 +7,12 @@ ghost use Rattle.universe_parts.specs.Listed.{version_listed};
 ghost use Rattle.requirement_list.specs.Installed.{AreInstalled};
 
 use choice_set::NoMemory;
-use problem::Problem;
+use problem::Parts;
 use std::alloc::Global;
 use universe_parts::ListedVersion;
 
 /// Whether a version is the installed one of its package.
-pub fn is_installed(problem: &Problem, version: u32) -> bool
+pub fn is_installed(problem: &Parts, version: u32) -> bool
     requires { version < version_count problem.now }
     ensures { result ≡ has problem.now.starts version }
 {
@@ -24,7 +24,7 @@ pub fn is_installed(problem: &Problem, version: u32) -> bool
 /// The versions that are installed, of all versions of a problem.
 pub fn list_installed<'s, 'a>(
     alloc: Global,
-    problem: &Problem,
+    problem: &Parts,
     versions: &[ListedVersion<'s, 'a>],
 ) -> Result<Vec<ListedVersion<'s, 'a>>, NoMemory>
     requires { version_count problem.now ≡ length versions.now }

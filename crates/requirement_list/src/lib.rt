@@ -72,8 +72,8 @@ pub fn list_requirements<'s, 'a>(
         MatchResult result (IsRequirementList builder rs) (λ end. (end ≡ NoMemory) ⊎ (option_map build_end (requirement_refusal rs) ≡ Some end)) }
 {
     // it tells that there are not too many versions
-    let _versions = builder.problem().versions();
-    let kept = list_installed(alloc, builder.problem(), versions)?;
+    let _versions = builder.parts().versions();
+    let kept = list_installed(alloc, builder.parts(), versions)?;
     let all = MeetingIndex::new(alloc, native, versions)?;
     let installed = MeetingIndex::new(alloc, native, kept.as_slice())?;
     let indexes = Indexes { all, installed };

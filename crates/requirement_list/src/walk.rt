@@ -20,7 +20,7 @@ use crate::left::LeftTable;
 use choice_set::NoMemory;
 use dep_fields::Item;
 use meeting_index::MeetingIndex;
-use problem::Problem;
+use problem::Parts;
 use std::alloc::Global;
 use universe_model::BuildEnd;
 
@@ -84,7 +84,7 @@ fn list_unmet(
 
 // Lists the versions of a package that are not met. The met version at `place` is the first one of the package.
 fn list_left(
-    problem: &Problem,
+    problem: &Parts,
     package: u32,
     met: &[u32],
     place: usize,
@@ -105,7 +105,7 @@ fn list_left(
 }
 
 // The package of a version.
-fn package_of(problem: &Problem, version: u32) -> u32
+fn package_of(problem: &Parts, version: u32) -> u32
     requires { version < version_count problem.now }
     ensures package { result ≡ package_of problem.now version }
     ensures range { result < package_count problem.now }
@@ -120,7 +120,7 @@ fn package_of(problem: &Problem, version: u32) -> u32
 // Lists a package, with its versions that are not met, where they are asked for. The met version at `place` is the first one of
 // the package.
 fn list_package(
-    problem: &Problem,
+    problem: &Parts,
     extent: Extent,
     package: u32,
     met: &[u32],
@@ -148,7 +148,7 @@ fn list_package(
 /// The only error is `NoMemory`.
 pub fn list_row<'a>(
     index: &MeetingIndex<'_, 'a>,
-    problem: &Problem,
+    problem: &Parts,
     item: &Item<'a>,
     extent: Extent,
     walk: &mut Walk,

@@ -42,7 +42,7 @@ fn versions_of(alloc: Global, count: u32, items: &[u32]) -> Result<ChoiceSet, Fa
 
 // Adds a hard dependency.
 fn add_dep(alloc: Global, builder: &mut Builder, source: u32, targets: &[u32]) -> Result<(), Fail> {
-    let count = builder.problem().versions();
+    let count = builder.parts().versions();
     if source >= count {
         return Err(Fail::new("not a version"));
     }

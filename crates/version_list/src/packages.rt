@@ -82,8 +82,8 @@ pub fn list_package<'s, 'a>(
     ensures within { OnOk result (version_count listing.new.builder ≤ most_versions) }
     ensures end { IfErr result (IsEndOf (with_row (listed listing.old) (row_read row.now)).problem) }
 {
-    let number = listing.builder.problem().packages();
-    let first = listing.builder.problem().versions();
+    let number = listing.builder.parts().packages();
+    let first = listing.builder.parts().versions();
     add_package(&mut listing.builder, row)?;
     let candidate = first + row.candidate_place() as u32;
     push_versions(&mut listing.versions, number, row)?;

@@ -16,7 +16,7 @@ add_versions-requires-clause-installed c =
     let versions = map version_listed c.args.versions.now in
     let kept = map version_listed c.in_ok-kept.kept.items in
     let P : List ℕ → Type 0 = λ starts. AreInstalled starts versions kept in
-    let starts = ap (λ (p : Problem). p.starts) (c.problem-2.ensures ∙ sym c.new-collected.ensures.builder) in
+    let starts = ap (λ (p : Problem). p.starts) (c.parts-2.ensures ∙ sym c.new-collected.ensures.builder) in
     has_installed c.new-collected.result.builder.starts c.args.native.now versions kept _ c.in_ok-all.ensures
     (c.in_ok-installed.ensures ∙ ap (λ (vs : List ListedVersion). let i : Indexed = record { native = c.args.native.now; versions = map version_listed vs } in i) c.as_slice.ensures.value)
     (subst P starts c.in_ok-kept.ensures.installed)

@@ -7,7 +7,7 @@ use Rattle.problem.proofs.Problem.broken_at_start.Goals as goal
 
 pub returns-clause-range : goal.returns-clause-range
 returns-clause-range c =
-    let p : Problem = record { owners = c.self.inside.owners.items; starts = c.self.inside.starts.items; dependencies = c.self.inside.dependencies } in
-    let P : Problem → Type 0 = λ r. IsTrue (list_all (λ d. nat_lt d (dependency_count r)) c.broken.result.now) in
-    let own : c.broken.result.now ≡ broken_at_start p = c.broken.ensures ∙ c.self.invariant.listed.broken in
+    let p : Problem = c.self.inside.parts in
+    let P : Problem → Type 0 = λ r. IsTrue (list_all (λ d. nat_lt d (dependency_count r)) c.as_slice.result.now) in
+    let own : c.as_slice.result.now ≡ broken_at_start p = c.as_slice.ensures.value ∙ c.self.invariant.broken in
     subst P c.self.view_is (ap (list_all (λ d. nat_lt d (dependency_count p))) own ∙ filter_range (is_broken p []) (dependency_count p))

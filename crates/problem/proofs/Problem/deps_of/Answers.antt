@@ -7,7 +7,7 @@ use Rattle.problem.proofs.Problem.deps_of.Goals as goal
 
 pub returns-clause-range : goal.returns-clause-range
 returns-clause-range c =
-    let p : Problem = record { owners = c.self.inside.owners.items; starts = c.self.inside.starts.items; dependencies = c.self.inside.dependencies } in
+    let p : Problem = c.self.inside.parts in
     let P : Problem → Type 0 = λ r. IsTrue (list_all (λ d. nat_lt d (dependency_count r)) c.of.result.now) in
     let Q : Problem → Type 0 = λ r. c.args.version < version_count r in
     let own : c.of.result.now ≡ deps_of p c.args.version = c.of.ensures ∙ c.self.invariant.listed.of.each c.args.version (subst Q (sym c.self.view_is) c.requires) in

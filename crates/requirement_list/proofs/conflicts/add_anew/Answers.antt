@@ -18,7 +18,7 @@ add_row-requires-clause-sound c =
     let listed = c.list_row.new.walk.listed in
     let is : slice_range listed 0 c.len.result ≡ row_of (setting_of index old) item extent =
     ap (slice_range listed 0) c.len.ensures ∙ range_whole listed ∙ c.in_ok-list_row.ensures
-    ∙ ap (λ (p : Problem). row_of (setting_in index p) item extent) c.problem-problem.ensures in
+    ∙ ap (λ (p : Problem). row_of (setting_in index p) item extent) c.parts-problem.ensures in
     listed_sound (setting_of index old) item extent (version_count old.builder) listed 0 c.len.result (version_size old.builder index.versions c.requires.owners) is
 
 pub returns-clause-adds : goal.returns-clause-adds
@@ -30,5 +30,5 @@ returns-clause-adds c =
     let listed = c.list_row.new.walk.listed in
     let is : slice_range listed 0 c.len.result ≡ row_of (setting_of index old) item extent =
     ap (slice_range listed 0) c.len.ensures ∙ range_whole listed ∙ c.in_ok-list_row.ensures
-    ∙ ap (λ (p : Problem). row_of (setting_in index p) item extent) c.problem-problem.ensures in
+    ∙ ap (λ (p : Problem). row_of (setting_in index p) item extent) c.parts-problem.ensures in
     row_adds (setting_of index old) c.args.source c.args.own item extent (slice_range listed 0 c.len.result) old c.add_row.result c.add_row.new.collected old.past is c.extent_for-extent.ensures c.add_row.ensures

@@ -20,7 +20,7 @@ returns-then-collected c =
     let r = recommended s c.args.source c.args.place items in
     let whole : is_broken_now s r ≡ false =
     sym (broken_now old.builder.starts indexes c.args.source c.args.place items c.requires.installed)
-    ∙ ap (λ (p : Problem). has p.starts c.args.source && not (list_any (meets_any indexes.installed.native items) indexes.installed.versions)) (sym c.problem-problem.ensures)
+    ∙ ap (λ (p : Problem). has p.starts c.args.source && not (list_any (meets_any indexes.installed.native items) indexes.installed.versions)) (sym c.parts-problem.ensures)
     ∙ sym c.is_broken.ensures ∙ c.if-is_broken.false in
     let P : List Requirement → Type 0 = λ rs. Adds rs old c.count_one.result c.count_one.new.self in
     subst P (sym (unbroken_counts s r whole)) (c.count_one.ensures.adds r)
