@@ -3,7 +3,7 @@ use Rattle.std.proofs.Common.{◌≡◌, ◌<◌, ◌≤◌, ◌-◌, ◌+◌, �
 use Rattle.std.specs.List.{filter, list_all}
 use Rattle.std.proofs.lemmas.List.{length-replicate, get_or-replicate, get_or-set_same, get_or-set_other, length-set}
 use Rattle.std.proofs.lemmas.List.Sums.{fold_more}
-use Rattle.std.proofs.lemmas.Bool.{and_from, lt-ltb, ltb-true, eq-eqb, cases_eq}
+use Rattle.std.proofs.lemmas.Bool.{and_from, lt-ltb, ltb-true, eq-eqb, cases_eq, or_right}
 use Rattle.lists.proofs.Below.{filter-below_yes, filter-below_no}
 use Rattle.lists.proofs.Tests.{list_all_weaker}
 use Rattle.lists.proofs.Sets.{list_all-has}
@@ -98,24 +98,13 @@ fill_can f count n d old now h l lt k low e =
     let own : length (get_or now.lists k []) ≡ length (filter (f k) (below d)) = ap length (l.lists.each k low) in
     let room : room_of now k ≡ room_of old k = ap (λ xs. get_or xs (suc k) now.size - get_or xs k 0) l.firsts ∙ ap (λ n. get_or old.firsts (suc k) n - get_or old.firsts k 0) l.size in
     let test : nat_lt (length (get_or now.lists k [])) (room_of now k) ≡ true = lt-ltb _ _ (omega (arith, own, room, h.rooms k low, filter_room (f k) d n lt e)) in
-    right (ends_in d (get_or now.lists k [])) (nat_lt (length (get_or now.lists k [])) (room_of now k)) test
-  where
-    right : (a b : Bool) → b ≡ true → (a || b) ≡ true
-    right true b e = refl
-    right false b e = e
+    or_right (ends_in d (get_or now.lists k [])) (nat_lt (length (get_or now.lists k [])) (room_of now k)) test
 
 all_from_has : (p : ℕ → Bool) (keys : List ℕ) → ((k : ℕ) → has keys k ≡ true → p k ≡ true) → list_all p keys ≡ true
 all_from_has p [] h = refl
-all_from_has p (x ∷ keys) h = and_from (p x) (list_all p keys) (h x (ap (λ b. b || has keys x) (eq-eqb x x refl))) (all_from_has p keys (λ k m. h k (right (nat_eq x k) (has keys k) m)))
-  where
-    right : (a b : Bool) → b ≡ true → (a || b) ≡ true
-    right true b e = refl
-    right false b e = e
-
-all_below_has : (n : ℕ) (keys : List ℕ) (k : ℕ) → list_all (λ x. nat_lt x n) keys ≡ true → has keys k ≡ true → nat_lt k n ≡ true
-all_below_has n keys k h m = list_all-has (λ x. nat_lt x n) keys k h m
+all_from_has p (x ∷ keys) h = and_from (p x) (list_all p keys) (h x (ap (λ b. b || has keys x) (eq-eqb x x refl))) (all_from_has p keys (λ k m. h k (or_right (nat_eq x k) (has keys k) m)))
 
 pub fill_can_all : (f : ℕ → ℕ → Bool) (count n d : ℕ) (old now : Laid) (keys : List ℕ) → IsEmptyFor (λ k. filter (f k) (below n)) count old → IsFilledTo f count d old now → d < n
     → ((k : ℕ) → f k d ≡ has keys k) → list_all (λ x. nat_lt x count) keys ≡ true → list_all (can_note now d) keys ≡ true
 fill_can_all f count n d old now keys h l lt e range =
-    all_from_has (can_note now d) keys (λ k m. fill_can f count n d old now h l lt k (ltb-true k count (all_below_has count keys k range m)) (e k ∙ m))
+    all_from_has (can_note now d) keys (λ k m. fill_can f count n d old now h l lt k (ltb-true k count (list_all-has (λ x. nat_lt x count) keys k range m)) (e k ∙ m))
