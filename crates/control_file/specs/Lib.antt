@@ -4,3 +4,4 @@ pub mod Fields
 pub mod Passes
 pub mod Laws
 pub mod Tags
+pub mod Raw

@@ -14,8 +14,12 @@ ghost use Rattle.control_file.specs.Tags.{tag_of, slot_by, slot_of};
 ghost use Rattle.std.specs.Char.{to_ascii_lowercase};
 ghost use Rattle.control_file.specs.Passes.{IsFirstLine, own_names, may_begin, fault_before_colon, fault_of_name, SkipsBlank, SkipsContinued, Scans, TakesField, at_line, faulty};
 
+mod raw;
+
 use ascii::is_space;
 use memchr::memchr;
+use raw::first_raw;
+pub use raw::{RawField, RawFields};
 use std::marker::Model;
 
 // The most fields that a paragraph may have.
@@ -443,16 +447,8 @@ fn first_field<'a>(text: &'a [u8], line: u64) -> (Field<'a>, Left<'a>)
     requires begins { begins_with_space text.now ≡ false }
     ensures { TakesField line text.now (field_text result.0) result.1.line result.1.text.now }
 {
-    let (first, after) = cut_line(text);
-    let left = skip_continued(after, line + 1);
-    let body = without_line_end(&text[..text.len() - left.text.len()]);
-    let name = name_in(without_line_end(first));
-    let field = Field {
-        name,
-        value: trimmed_end(trimmed_front(behind(body, name.len()))),
-        line,
-    };
-    (field, left)
+    let (raw, left) = first_raw(text, line);
+    (raw.field(), left)
 }
 
 // What stands behind the byte at a place.
@@ -520,6 +516,14 @@ impl<'a> Paragraph<'a> {
             rest: left.text,
             line: left.line,
         }
+    }
+
+    /// Its fields in order, as `fields` gives them, but each with its value still to be cut.
+    pub fn raw_fields(&self) -> RawFields<'a>
+        ensures { result ≡ self.now.fields }
+    {
+        let left = skip_continued(self.text, self.line);
+        RawFields::new(left.text, left.line)
     }
 
     /// The field at a place, counted from 0. It takes the time of a pass over the lines up to that field.

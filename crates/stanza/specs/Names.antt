@@ -1,5 +1,6 @@
 -- The names of the fields that a stanza is read from.
-use Rattle.std.specs.Prelude.{ℕ, Bool, List, [], ◌∷◌, codes}
+use Rattle.std.specs.Prelude.{ℕ, Bool, List, [], ◌∷◌, codes, slice_index}
+use Rattle.std.specs.Char.{to_ascii_lowercase}
 use Rattle.std.specs.Str.{str_eq_ignore_ascii_case}
 use Rattle.stanza.specs.declared.names.FieldName.{FieldName}
 use Rattle.stanza.specs.declared.names.FieldName.TheVariants.{Package, Status, Version, Architecture, Essential, PreDepends, Depends, Recommends, Conflicts, Breaks, Provides}
@@ -21,6 +22,10 @@ spelling Provides = codes "Provides"
 -- whether a text is a name, without regard to ASCII case
 abbrev pub spells : List ℕ → FieldName → Bool
 spells text field = str_eq_ignore_ascii_case text (spelling field)
+
+-- the first byte of a name in lower case, and 0 where there is none
+abbrev pub letter_of : List ℕ → ℕ
+letter_of text = to_ascii_lowercase (slice_index text 0)
 
 abbrev pub all_names : List FieldName
 all_names = Package ∷ Status ∷ Version ∷ Architecture ∷ Essential ∷ PreDepends ∷ Depends ∷ Recommends ∷ Conflicts ∷ Breaks ∷ Provides ∷ []

@@ -3,7 +3,7 @@
 ghost use Rattle.std.specs.Prelude.{◌≡◌, None, length};
 
 use crate::names::{FIELDS, FieldName};
-use control_file::{Field, Paragraph};
+use control_file::{Field, Paragraph, RawField};
 
 /// The first field of each name, where a paragraph has one.
 #[derive(Clone, Copy)]
@@ -13,7 +13,7 @@ pub struct Slots<'a> {
 }
 
 impl<'a> Slots<'a> {
-    ghost use Rattle.control_file.specs.Fields.{field_text};
+    ghost use Rattle.control_file.specs.Raw.{raw_text};
     ghost use Rattle.stanza.specs.Found.{found_in, found_text, slot_of, slot_text, slot_behind};
     ghost use Rattle.stanza.specs.Names.{spelling};
     ghost use Rattle.stanza.specs.declared.names.FieldName.{FieldName};
@@ -23,8 +23,8 @@ impl<'a> Slots<'a> {
         ensures { found_text result ≡ found_in paragraph.now }
     {
         let mut slots = Slots::empty();
-        for field in paragraph.fields() {
-            slots.keep(field);
+        for field in paragraph.raw_fields() {
+            slots.keep(&field);
         }
         slots
     }
@@ -38,14 +38,14 @@ impl<'a> Slots<'a> {
     }
 
     // Keeps a field that is the first of its name.
-    fn keep(&mut self, field: Field<'a>)
-        ensures { (name : FieldName) → slot_of self.new name ≡ slot_behind (spelling name) (field_text field.entry) (slot_of self.old name) }
+    fn keep(&mut self, field: &RawField<'a>)
+        ensures { (name : FieldName) → slot_of self.new name ≡ slot_behind (spelling name) (raw_text field.now) (slot_of self.old name) }
     {
         let Some(name) = FieldName::of(field.name) else {
             return;
         };
         if self.get(name).is_none() {
-            self.fields[name.number()] = Some(field);
+            self.fields[name.number()] = Some(field.field());
         }
     }
 

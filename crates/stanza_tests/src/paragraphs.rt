@@ -36,3 +36,18 @@ fn fields_of_a_paragraph(rt: HostRuntime) -> Result<(), Fail> {
     );
     Ok(())
 }
+
+#[test]
+fn raw_fields_of_a_paragraph(rt: HostRuntime) -> Result<(), Fail> {
+    let Ok(Some(paragraph)) = Paragraphs::new(b"A: 1\nB:\n 2\n").next() else {
+        return Err(Fail::new("no paragraph"));
+    };
+    let mut fields = paragraph.raw_fields();
+    let Some(raw) = fields.next() else {
+        return Err(Fail::new("no field"));
+    };
+    assert_eq!(rt; raw.name, b"A".as_slice());
+    assert_eq!(rt; raw.field().value, b"1".as_slice());
+    assert_eq!(rt; fields.count(), 1);
+    Ok(())
+}

@@ -1,12 +1,12 @@
 use Rattle.std.proofs.Common.{ap, sym, ◌∙◌}
-use Rattle.control_file.specs.Fields.{field_text}
+use Rattle.control_file.specs.Raw.{raw_text}
 use Rattle.stanza.specs.Found.{slot_of}
 use Rattle.stanza.proofs.Found.{found_left, found_step, each_found}
 use Rattle.stanza.proofs.slots.Slots.of.Goals as goal
 
 pub loop-field-preserved : goal.loop-field-preserved
 loop-field-preserved c =
-    let field = field_text c.in-Some.field in
+    let field = raw_text c.in-Some.field in
     let rest = c.next.new.self in
     λ name.
     let slot = slot_of c.loop-field.slots name in
