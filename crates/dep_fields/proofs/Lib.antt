@@ -6,3 +6,4 @@ pub mod Taken
 pub mod Spelled
 pub mod Laws
 pub mod Provided
+pub mod Unmarked

@@ -157,7 +157,13 @@ impl<'a> Iterator for Items<'a> {
     ghost remaining = { item_count items_left };
 
     fn next(&mut self) -> Option<Item<'a>> {
-        let (part, left) = cut(self.left?, b'|');
+        let text = self.left?;
+        // most groups have one item, in which no bar stands
+        if let Ok(item) = read_item(text) {
+            self.left = None;
+            return Some(item);
+        }
+        let (part, left) = cut(text, b'|');
         self.left = left;
         read_item(part).ok()
     }

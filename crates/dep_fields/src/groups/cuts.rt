@@ -50,6 +50,10 @@ pub fn check_items(text: &[u8], start: usize, alternatives: bool) -> Result<(), 
     ensures fault { result_err result ≡ first_fault alternatives start (pieces bar text.now) }
     ensures within { IfErr result (λ fault. fault.at ≤ start + length text.now) }
 {
+    // most groups have one item, in which no bar stands
+    if let Ok(_) = read_item(text) {
+        return Ok(());
+    }
     let mut place = start;
     let mut left = Some(text);
     while let Some(text) = left {

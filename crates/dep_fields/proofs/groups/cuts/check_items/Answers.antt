@@ -3,6 +3,7 @@ use Rattle.std.specs.Prelude.{Option}
 use Rattle.std.specs.Borrow.{Bor}
 use Rattle.dep_fields.specs.Fields.{parts_left, first_fault, bar}
 use Rattle.dep_fields.proofs.Parts.{fault-here, Ends}
+use Rattle.dep_fields.proofs.Unmarked.{sound_alone}
 use Rattle.dep_fields.proofs.groups.cuts.check_items.Goals as goal
 
 pub returns-in-Some-fault_of_part-clause-fault : goal.returns-in-Some-fault_of_part-clause-fault
@@ -16,3 +17,6 @@ returns-in-Some-fault_of_part-clause-within c =
     let P : Option (Bor (List ℕ)) → Type 0 = λ left. Ends c.loop-left.place (c.args.start + length c.args.text.now) left in
     let ends : c.loop-left.place + length c.in-Some.text.now ≡ c.args.start + length c.args.text.now = subst P c.in-Some.is c.loop-left.invariant.ends in
     omega (arith, c.in-Some-fault_of_part.ensures.within)
+
+pub returns-in-Ok-clause-fault : goal.returns-in-Ok-clause-fault
+returns-in-Ok-clause-fault c = sym (sound_alone c.args.alternatives c.args.start c.args.text.now _ (sym c.in-Ok.ensures))
