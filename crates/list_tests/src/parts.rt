@@ -8,7 +8,7 @@ use universe_parts::{Names, is_counted, is_plain, is_provided_by, is_provided_wi
 #[test]
 fn names_are_numbered_in_order(rt: HostRuntime) -> Result<(), Fail> {
     let alloc = rt.alloc();
-    let mut names = Names::new(alloc);
+    let mut names = Names::new(alloc)?;
     assert_eq!(rt; names.add(alloc, b"libc6")?, 0);
     assert_eq!(rt; names.add(alloc, b"python3")?, 1);
     assert_eq!(rt; names.add(alloc, b"libc6")?, 0);

@@ -1,3 +1,4 @@
 pub mod Texts
 pub mod Distinct
 pub mod Numbering
+pub mod Slots

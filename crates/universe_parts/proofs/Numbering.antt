@@ -1,9 +1,9 @@
--- A new name goes to its place in the order, and its text to the end of the list.
-use Rattle.std.proofs.Common.{◌≡◌, ℕ, suc, ◌+◌, ◌<◌, ◌≤◌, arith, add-zero, zero-add, List, [], ◌∷◌, ◌++◌, Bool, true, false, not, cond, Option, Some, None, refl, sym, ap, ◌∙◌, length, nat_eq, nat_lt}
+-- What is found after a name was put to its place in the order, and after its text was added at the end of the list.
+use Rattle.std.proofs.Common.{◌≡◌, ℕ, suc, ◌+◌, arith, add-zero, zero-add, List, [], ◌∷◌, ◌++◌, Bool, true, false, cond, Option, Some, None, refl, sym, ap, ◌∙◌, length, nat_eq}
 use Rattle.std.specs.Global.{Vec}
 use Rattle.std.specs.BTreeMap.{insert_entry}
 use Rattle.std.specs.Cmp.Lexicographic.{slice_cmp, pointwise}
-use Rattle.std.specs.List.{list_any, position, position_from, position_or_len}
+use Rattle.std.specs.List.{position, position_from}
 use Rattle.std.specs.Map.{lookup}
 use Rattle.std.specs.Ordering.{is_eq, match_ordering, nat_cmp}
 use Rattle.std.specs.declared.cmp.Ordering.{Ordering}
@@ -13,8 +13,7 @@ use Rattle.std.proofs.lemmas.Bool.Decides.{nat_tests}
 use Rattle.std.proofs.lemmas.Cmp.{same_from_slice_cmp, nat_list_eq_equiv}
 use Rattle.std.proofs.lemmas.Iterator.Adapters.{position_from-zero}
 use Rattle.ascii.specs.Texts.{is_same}
-use Rattle.universe_parts.specs.Names.{AreNumbered, texts}
-use Rattle.universe_parts.proofs.Texts.{texts-append}
+use Rattle.universe_parts.specs.Names.{is_key}
 
 -- ---- which names are equal
 
@@ -22,17 +21,13 @@ is_eq-same : (a b : List ℕ) → is_eq (slice_cmp nat_cmp a b) ≡ is_same a b
 is_eq-same a b =
     same_from_slice_cmp nat_cmp is_eq (λ xs ys. pointwise nat_eq xs ys) refl (λ _ _. refl) (λ _ _. refl) (λ x y xs ys o h. grind (arith, nat_tests)) a b (slice_cmp nat_cmp a b) refl
 
-same-bytes : (a b : List ℕ) → is_same a b ≡ true → a ≡ b
+pub same-bytes : (a b : List ℕ) → is_same a b ≡ true → a ≡ b
 same-bytes [] [] e = refl
 same-bytes [] (y ∷ ys) e = absurd (cc)
 same-bytes (x ∷ xs) [] e = absurd (cc)
 same-bytes (x ∷ xs) (y ∷ ys) e = let p = and_parts (nat_eq x y) (is_same xs ys) e in ap (λ z. z ∷ xs) (eqb-true x y p.0) ∙ ap (λ zs. y ∷ zs) (same-bytes xs ys p.1)
 
 -- ---- what is found after a name was put in
-
--- whether a key has these bytes
-abbrev pub is_key : List ℕ → Vec ℕ → Bool
-is_key name key = is_same name key.items
 
 abbrev pub key_order : Vec ℕ → Vec ℕ → Ordering
 key_order a b = slice_cmp nat_cmp a.items b.items
@@ -49,7 +44,7 @@ equal-cases true false v w rest e = absurd (cc)
 equal-cases false true v w rest e = absurd (cc)
 equal-cases false false v w rest e = refl
 
-apart-cases : (a b : Bool) (v w : ℕ) (rest : Option ℕ) → (a ≡ true → b ≡ true → ⊥) → cond a (Some w) (cond b (Some v) rest) ≡ cond b (Some v) (cond a (Some w) rest)
+pub apart-cases : (a b : Bool) (v w : ℕ) (rest : Option ℕ) → (a ≡ true → b ≡ true → ⊥) → cond a (Some w) (cond b (Some v) rest) ≡ cond b (Some v) (cond a (Some w) rest)
 apart-cases true true v w rest apart = absurd (apart refl refl)
 apart-cases true false v w rest apart = refl
 apart-cases false true v w rest apart = refl
@@ -111,17 +106,3 @@ push-cases name new names false e none =
 pub position-push : (name new : List ℕ) (names : List (List ℕ)) → position (is_same new) names ≡ None
     → position (is_same name) (names ++ new ∷ []) ≡ cond (is_same name new) (Some (length names)) (position (is_same name) names)
 position-push name new names none = push-cases name new names (is_same name new) refl none
-
--- ---- a name that was not there
-
-pub numbered-push : (list : List (Vec ℕ)) (es : List (Vec ℕ × ℕ)) (key kept : Vec ℕ) (n : ℕ) → key.items ≡ kept.items → n ≡ length (texts list)
-    → position (is_same kept.items) (texts list) ≡ None → AreNumbered list es → AreNumbered (list ++ kept ∷ []) (insert_entry key_order es key n)
-numbered-push list es key kept n same long none old = record {
-  at = λ name.
-      lookup-insert name key n es
-      ∙ ap (λ bytes. cond (is_same name bytes) (Some n) (lookup (is_key name) es)) same
-      ∙ ap (λ m. cond (is_same name kept.items) (Some m) (lookup (is_key name) es)) long
-      ∙ ap (cond (is_same name kept.items) (Some (length (texts list)))) (old.at name)
-      ∙ sym (position-push name kept.items (texts list) none)
-      ∙ ap (position (is_same name)) (sym (texts-append list kept));
-}

@@ -1,5 +1,5 @@
 -- What stanzas and versions of the program say.
-use Rattle.std.specs.Prelude.{Option, option_map}
+use Rattle.std.specs.Prelude.{option_map}
 use Rattle.std.specs.Borrow.{Bor}
 use Rattle.stanza.specs.Views.{meaning}
 use Rattle.universe_model.specs.Reading as reading

@@ -1,23 +1,30 @@
 //! Package names and their numbers.
 
-ghost use Rattle.std.specs.Prelude.{◌≡◌, ◌<◌, [], ◌∷◌, ◌++◌, List, ℕ, length, is_ok, if◌then◌else◌, IfOk, OnOk, slice_get};
+ghost use Rattle.std.specs.Prelude.{◌≡◌, ◌<◌, [], ◌∷◌, ◌++◌, List, ℕ, None, length, is_ok, if◌then◌else◌, IfOk, OnOk, OnErr, slice_get, slice_index_or};
 ghost use Rattle.std.specs.List.{position, position_or_len};
 ghost use Rattle.ascii.specs.Texts.{is_same};
-ghost use Rattle.universe_parts.specs.Names.{AreNumbered, with_name};
+ghost use Rattle.universe_parts.specs.Hashes.{share_of};
+ghost use Rattle.universe_parts.specs.Names.{AreNumbered, first_in, texts, with_name};
 ghost use Rattle.lists.specs.Distinct.{distinct};
 
 use choice_set::NoMemory;
 use std::alloc::Global;
 use std::collections::BTreeMap;
+use std::hash::{FoldHasher, Hasher};
 use std::marker::Model;
 
-/// Package names (Debian Policy 5.6.1), numbered from 0 in the order in which they were first added. However names are chosen,
-/// one is found among many by halves.
+/// Package names (Debian Policy 5.6.1), numbered from 0 in the order in which they were first added. A name is found by the share
+/// of all hashes that its hash is in. The first name of a share has its slot, and the few others stand in their order: however
+/// names are chosen, one is found among many by halves.
 #[derive(Drop)]
 pub struct Names {
     list: Vec<Vec<u8>>,
-    numbers: BTreeMap<Vec<u8>, usize>,
-    ghost numbered: { AreNumbered list.items numbers.entries },
+    // of each share 0, or 1 more than the number of its first name
+    slots: Vec<u32>,
+    // the names that found their slots taken
+    others: BTreeMap<Vec<u8>, usize>,
+    ghost sized: { length slots.items ≡ 524288 },
+    ghost numbered: { AreNumbered (texts list.items) slots.items others.entries },
 }
 
 impl Model for Names {
@@ -29,15 +36,75 @@ impl Model for Names {
     ghost view = { λ n. texts n.list.items };
 }
 
+// Slots of which none is taken.
+fn free_slots(alloc: Global, count: usize) -> Result<Vec<u32>, NoMemory>
+    ensures sized { IfOk result (λ slots. length slots.items ≡ count) }
+    ensures free { IfOk result (λ slots. AreNumbered [] slots.items []) }
+{
+    let slots = vec![in alloc; 0u32; count]?;
+    Ok(slots)
+}
+
+// Which share of all hashes a name is in.
+fn share_of(name: &[u8]) -> usize
+    ensures share { result ≡ share_of name.now }
+    ensures range { result < 524288 }
+{
+    let mut hasher = FoldHasher::default();
+    hasher.write(name);
+    (hasher.finish() >> 45) as usize
+}
+
+// The number that a slot has.
+fn first_in(slot: u32) -> Option<usize>
+    ensures { result ≡ first_in slot }
+{
+    if slot == 0 {
+        return None;
+    }
+    Some(slot as usize - 1)
+}
+
+// Numbers a name that has none.
+fn number_name(
+    alloc: Global,
+    slots: &mut Vec<u32>,
+    others: &mut BTreeMap<Vec<u8>, usize>,
+    name: &[u8],
+    number: usize,
+) -> Result<(), NoMemory>
+    requires { length slots.old.items ≡ 524288 }
+    ensures sized { length slots.new.items ≡ 524288 }
+    ensures kept { OnErr result ((slots.new.items ≡ slots.old.items) × (others.new.entries ≡ others.old.entries)) }
+    ensures numbered { (names : List (List ℕ)) → AreNumbered names slots.old.items others.old.entries → position (is_same name.now) names ≡ None → number ≡ length names → OnOk result (AreNumbered (names ++ name.now ∷ []) slots.new.items others.new.entries) }
+{
+    let share = share_of(name);
+    if slots[share] == 0 {
+        let Ok(before) = u32::try_from(number) else {
+            return Err(NoMemory);
+        };
+        let Some(slot) = before.checked_add(1) else {
+            return Err(NoMemory);
+        };
+        slots[share] = slot;
+        return Ok(());
+    }
+    let key = Vec::from_slice(alloc, name)?;
+    others.insert(key, number)?;
+    Ok(())
+}
+
 impl Names {
     /// No names.
-    pub fn new(alloc: Global) -> Names
-        ensures { result ≡ [] }
+    pub fn new(alloc: Global) -> Result<Names, NoMemory>
+        ensures { IfOk result (λ names. names ≡ []) }
     {
-        Names {
+        let slots = free_slots(alloc, 524_288)?;
+        Ok(Names {
             list: Vec::new(alloc),
-            numbers: BTreeMap::new(alloc),
-        }
+            slots,
+            others: BTreeMap::new(alloc),
+        })
     }
 
     /// How many names there are.
@@ -51,7 +118,11 @@ impl Names {
     pub fn number_of(&self, name: &[u8]) -> Option<usize>
         ensures { result ≡ position (is_same name.now) self.now }
     {
-        self.numbers.get(name).copied()
+        let first = first_in(self.slots[share_of(name)])?;
+        if name == self.list[first].as_slice() {
+            return Some(first);
+        }
+        self.others.get(name).copied()
     }
 
     /// The name with a number.
@@ -73,10 +144,9 @@ impl Names {
             return Ok(number);
         }
         let number = self.list.len();
-        let key = Vec::from_slice(alloc, name)?;
         let kept = Vec::from_slice(alloc, name)?;
         self.list.reserve(1)?;
-        self.numbers.insert(key, number)?;
+        number_name(alloc, &mut self.slots, &mut self.others, name, number)?;
         self.list.push_reserved(kept);
         Ok(number)
     }

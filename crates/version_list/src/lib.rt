@@ -46,7 +46,7 @@ pub fn list_versions<'s, 'a>(
 ) -> Result<Listing<'s, 'a>, BuildEnd>
     ensures { MatchResult result (λ l. IsListing (stanzas_read status.now packages.now) l) (λ end. (end ≡ build_end.NoMemory) ⊎ (option_map faults.build_end (listing_refusal (stanzas_read status.now packages.now)) ≡ Some end)) }
 {
-    let mut names = Names::new(alloc);
+    let mut names = Names::new(alloc)?;
     let rows = read_rows(alloc, &mut names, status, packages)?;
     if rows.len() > MOST_PACKAGES {
         return Err(limit(Which::Packages, MOST_PACKAGES));

@@ -4,7 +4,6 @@ use Rattle.std.specs.Global.{Vec}
 use Rattle.std.specs.List.{position}
 use Rattle.ascii.specs.Texts.{is_same}
 use Rattle.universe_parts.specs.Names.{AreNumbered, texts, with_name}
-use Rattle.universe_parts.proofs.Numbering.{numbered-push}
 use Rattle.universe_parts.proofs.Texts.{length-texts, position_or_len-none, texts-append, with_name-found, with_name-new}
 use Rattle.universe_parts.proofs.Distinct.{with_name-distinct}
 use Rattle.universe_parts.proofs.names.Names.add.Goals as goal
@@ -46,16 +45,18 @@ returns-clause-read c =
 pub invariant_of-self-inside-2 : goal.invariant_of-self-inside-2
 invariant_of-self-inside-2 c =
     let list = c.self.inside.list.items in
-    let es = c.self.inside.numbers.entries in
-    let key = c.in_ok-key.key in
-    let kept = c.in_ok-kept.kept in
+    let slots = c.number_name.new.slots.items in
+    let others = c.number_name.new.others.entries in
+    let name = c.args.name.now in
     let long : c.len-number.result ≡ length list = search rules in
-    let none : position (is_same kept.items) (texts list) ≡ None =
-    ap (λ (name : List ℕ). position (is_same name) (texts list)) c.in_ok-kept.ensures.items
-    ∙ ap (position (is_same c.args.name.now)) c.self.view_is
-    ∙ sym c.in_default.ensures in (
-      subst (λ (ks : List (Vec ℕ)). AreNumbered ks c.insert.new.self.entries) (sym (c.push_reserved.ensures.items ∙ ap (λ (ks : List (Vec ℕ)). ks ++ kept ∷ []) c.reserve.ensures.items))
-          (subst (λ (fs : List (Vec ℕ × ℕ)). AreNumbered (list ++ kept ∷ []) fs) (sym c.in_ok-insert.ensures.entries)
-          (numbered-push list es key kept c.len-number.result (c.in_ok-key.ensures.items ∙ sym c.in_ok-kept.ensures.items) (long ∙ sym (length-texts list)) none c.self.inside.numbered)),
-      tt,
+    let none : position (is_same name) (texts list) ≡ None = ap (position (is_same name)) c.self.view_is ∙ sym c.in_default.ensures in
+    let more : texts list ++ name ∷ [] ≡ texts c.push_reserved.new.self.items =
+    ap (λ (text : List ℕ). texts list ++ text ∷ []) (sym c.in_ok-kept.ensures.items)
+    ∙ sym (ap texts (c.push_reserved.ensures.items ∙ ap (λ (ks : List (Vec ℕ)). ks ++ c.in_ok-kept.kept ∷ []) c.reserve.ensures.items) ∙ texts-append list c.in_ok-kept.kept) in (
+      c.in_ok-number_name.ensures.sized,
+      (
+        subst (λ (names : List (List ℕ)). AreNumbered names slots others) more
+            (c.in_ok-number_name.ensures.numbered (texts list) c.self.inside.numbered none (long ∙ sym (length-texts list))),
+        tt,
+      ),
     )
