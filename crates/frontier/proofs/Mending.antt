@@ -10,7 +10,7 @@ use Rattle.frontier.specs.declared.slots.Class.TheVariants as class
 use Rattle.frontier.specs.declared.ladder.Best.{Best}
 use Rattle.frontier.specs.declared.ladder.Settled.{Settled}
 use Rattle.frontier.specs.Slots.{slot_at, no_slot, is_in}
-use Rattle.frontier.specs.Ladders.{no_best, best_at, of_class, own, least, best_in, best_of, ArePlaces, IsLadder, IsRightIn, AreRightIn, is_settled, AreButOne, above, up, IsRightOff}
+use Rattle.frontier.specs.Ladders.{no_best, best_at, of_class, own, least, best_in, best_of, ArePlaces, IsLadder, IsRightIn, AreRightIn, is_settled, Settles, AreButOne, above, up, IsRightOff}
 use Rattle.frontier.proofs.Ladders.{above_left, above_right, up_above, of_best, own_some, best_cases, entry_of, best_same, best_of_same, alike_slots, best_other, off_changed, places_as_many, mend_up, mend_done, places_set}
 
 up_le : (k m : ℕ) → up k m ≤ m
@@ -184,13 +184,9 @@ all_settled lines slots bests size right = record {
       ∙ ap (λ (x : Option ℕ). made (best_in class.Free lines slots bests n) (best_in class.Held lines slots bests n) x) (right class.Finished n lt);
 }
 
--- what `settle` says of a place and what it has to have
-abbrev pub SettlesWith : Settled → Settled → Best → Best → ℕ → Type 0
-SettlesWith old new was is from = (c : Class) → IsTrue (is_settled c new) → IsTrue (is_settled c old) ⊎ ((of_class c was ≡ of_class c is) × (of_class c is ≢ Some from))
-
 -- what is settled at a place is right
 pub settled_right : (lines : List Line) (was slots : List Slot) (bests : List Best) (from place : ℕ) (old new : Settled) → AreButOne was slots from → IsMending lines was slots bests from place → AreRightIn old lines slots bests
-    → SettlesWith old new (best_at bests place) (best_of lines slots bests place) from → AreRightIn new lines slots bests
+    → Settles old (best_at bests place) (best_of lines slots bests place) from new → AreRightIn new lines slots bests
 settled_right lines was slots bests from place old new b m right h = λ c t.
     elim (h c t) as (λ _. IsRightIn c lines slots bests) [
       | inl before ↦ right c before
@@ -207,8 +203,8 @@ each_settled settled f h d class.Free = f
 each_settled settled f h d class.Held = h
 each_settled settled f h d class.Finished = d
 
-pub settles_same : (old new : Settled) (was was' is is' : Best) (from : ℕ) → was ≡ was' → is ≡ is' → SettlesWith old new was is from → SettlesWith old new was' is' from
-settles_same old new was was' is is' from e k h = subst (λ (b : Best). SettlesWith old new was' b from) k (subst (λ (b : Best). SettlesWith old new b is from) e h)
+pub settles_same : (old new : Settled) (was was' is is' : Best) (from : ℕ) → was ≡ was' → is ≡ is' → Settles old was is from new → Settles old was' is' from new
+settles_same old new was was' is is' from e k h = subst (λ (b : Best). Settles old was' b from new) k (subst (λ (b : Best). Settles old b is from new) e h)
 
 -- a write of one node
 pub one_set : (slots : List Slot) (place : ℕ) (slot : Slot) → AreButOne slots (set slots place slot) place
