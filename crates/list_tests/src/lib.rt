@@ -4,6 +4,8 @@
 #![tactic(auto)]
 
 #[cfg(test)]
+mod crowded;
+#[cfg(test)]
 mod listed_stanzas;
 #[cfg(test)]
 mod listed_versions;

@@ -2,7 +2,7 @@
 
 use control_file::Paragraphs;
 use dep_fields::Groups;
-use meeting_index::MeetingIndex;
+use meeting_index::{MeetingIndex, Targets};
 use stanza::Stanza;
 use std::test::Fail;
 use universe_parts::{ListedVersion, ReadStanza};
@@ -37,9 +37,10 @@ fn met_by_a_provided_name(rt: HostRuntime) -> Result<(), Fail> {
     let Ok(Some(group)) = Groups::new(b"w | v (>> 2)", true).next() else {
         return Err(Fail::new("no group"));
     };
+    let mut targets = Targets::new(alloc);
+    index.targets(&group, &mut targets)?;
+    assert_eq!(rt; targets.numbers.as_slice(), [1u32].as_slice());
     let mut met = Vec::new(alloc);
-    index.targets(&group, &mut met)?;
-    assert_eq!(rt; met.as_slice(), [1u32].as_slice());
     for item in group.items() {
         index.met_by(&item, &mut met)?;
     }

@@ -16,22 +16,26 @@ use Rattle.universe_model.specs.Versions.{Release, Version, concat, is_release_w
 use Rattle.meeting_index.specs.Carriers.{Carrier, own, provided, has_plain_arch, provided_in, provides_of, provided_by, all_provided, carriers, is_named, version_in, carries, carried, met_under}
 use Rattle.meeting_index.specs.Crowds.{finds_as, meets_under}
 use Rattle.meeting_index.specs.Numbers.{numbers_from}
-use Rattle.meeting_index.specs.Provided.{carrier_of, carriers_listed}
+use Rattle.meeting_index.specs.Provided.{carrier_of, listed_for_versions}
 use Rattle.meeting_index.specs.declared.found.Carriers.{Carriers}
 use Rattle.universe_parts.specs.Listed.{version_listed}
 use Rattle.std.proofs.lemmas.List.{length-map}
 use Rattle.meeting_index.proofs.Numbers.{has-numbers_from, has-numbers_from-or, numbers_from-none, numbers_from-rising, numbers_from-append, found_by_numbers}
 
-has-cases : (test : Carrier → Bool) (x : Carrier) (xs : List Carrier) (c : ℕ) (b : Bool)
-    → has (map version_in (filter test xs)) c ≡ list_any (λ y. test y && nat_eq y.version c) xs
-    → has (map version_in (cond b (x ∷ filter test xs) (filter test xs))) c ≡ ((b && nat_eq x.version c) || list_any (λ y. test y && nat_eq y.version c) xs)
-has-cases test x xs c true rest = ap (λ r. nat_eq x.version c || r) rest
-has-cases test x xs c false rest = rest
+any-cases : (g : ℕ → Bool) (test : Carrier → Bool) (x : Carrier) (xs : List Carrier) (b : Bool)
+    → list_any g (map version_in (filter test xs)) ≡ list_any (λ y. test y && g y.version) xs
+    → list_any g (map version_in (cond b (x ∷ filter test xs) (filter test xs))) ≡ ((b && g x.version) || list_any (λ y. test y && g y.version) xs)
+any-cases g test x xs true rest = ap (λ r. g x.version || r) rest
+any-cases g test x xs false rest = rest
+
+-- whether the number of a carrier that passes passes another test
+pub any-filter : (g : ℕ → Bool) (test : Carrier → Bool) (xs : List Carrier) → list_any g (map version_in (filter test xs)) ≡ list_any (λ x. test x && g x.version) xs
+any-filter g test [] = refl
+any-filter g test (x ∷ xs) = any-cases g test x xs (test x) (any-filter g test xs)
 
 -- whether a number is that of a carrier that passes
 has-filter : (test : Carrier → Bool) (xs : List Carrier) (c : ℕ) → has (map version_in (filter test xs)) c ≡ list_any (λ x. test x && nat_eq x.version c) xs
-has-filter test [] c = refl
-has-filter test (x ∷ xs) c = has-cases test x xs c (test x) (has-filter test xs c)
+has-filter test xs c = any-filter (λ n. nat_eq n c) test xs
 
 both-and : (a b n : Bool) → ((a && n) || (b && n)) ≡ ((a || b) && n)
 both-and true b true = refl
@@ -209,11 +213,10 @@ named-carriers name vs provided first is =
     ∙ sym (numbers_from-append 0 (is_named name) (map_from own 0 vs) provided)
 
 -- what the carriers of a name find is what those of all carriers do that have the name
-pub crowd-carriers : (native : List ℕ) (vs : List Version) (listed : List Carrier) (name numbers : List ℕ) (bound : Option VersionBound) (c : ℕ)
-    → listed ≡ carriers native vs → ((test : ℕ → Bool) → list_any test numbers ≡ list_any test (numbers_of (is_named name) (carriers native vs)))
-    → list_any (finds_as listed bound c) numbers ≡ list_any (meets_under name bound c) (carriers native vs)
-crowd-carriers native vs listed name numbers bound c all named =
-    let cs = carriers native vs in
+pub crowd-carriers : (cs listed : List Carrier) (name numbers : List ℕ) (bound : Option VersionBound) (c : ℕ)
+    → listed ≡ cs → ((test : ℕ → Bool) → list_any test numbers ≡ list_any test (numbers_of (is_named name) cs))
+    → list_any (finds_as listed bound c) numbers ≡ list_any (meets_under name bound c) cs
+crowd-carriers cs listed name numbers bound c all named =
     let find = λ (number : ℕ). met_under bound (slice_get cs number) in
     ap (λ (ls : List Carrier). list_any (finds_as ls bound c) numbers) all
     ∙ named (finds_as cs bound c)
@@ -226,7 +229,7 @@ crowd-carriers native vs listed name numbers bound c all named =
 
 -- the carriers behind the versions
 pub carrier-behind : (listed : Carriers) (number : ℕ) → length listed.versions.now ≤ number
-    → slice_get (carriers_listed listed) number ≡ slice_get (map carrier_of listed.provided.now) (number - length listed.versions.now)
+    → slice_get (listed_for_versions listed) number ≡ slice_get (map carrier_of listed.provided.now) (number - length listed.versions.now)
 carrier-behind listed number le =
     let versions = listed.versions.now in
     let long : length (map version_listed versions) ≡ length versions = length-map versions version_listed in

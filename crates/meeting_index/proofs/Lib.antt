@@ -8,5 +8,6 @@ pub mod Fewness
 pub mod Finding
 pub mod NamedRuns
 pub mod Numbers
+pub mod Owners
 pub mod Shares
 pub mod SideLaws

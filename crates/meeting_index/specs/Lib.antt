@@ -13,6 +13,7 @@ pub mod Members
 pub mod Named
 pub mod NamedLaws
 pub mod Numbers
+pub mod Owners
 pub mod Provided
 pub mod Spans
 pub mod Starts

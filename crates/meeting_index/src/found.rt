@@ -1,6 +1,6 @@
 // The versions that carriers find.
 
-ghost use Rattle.std.specs.Prelude.{◌≡◌, ◌++◌, Some, OnOk};
+ghost use Rattle.std.specs.Prelude.{◌≡◌, ◌++◌, Some, OnOk, map};
 ghost use Rattle.std.specs.List.{flat_map, slice_get};
 ghost use Rattle.std.specs.Option.{option_map, option_to_list};
 ghost use Rattle.dep_fields.specs.Relationships.{bound_of};
@@ -12,7 +12,8 @@ ghost use Rattle.meeting_index.specs.Fitting.{passes_with};
 ghost use Rattle.lists.specs.Sets.{has};
 ghost use Rattle.meeting_index.specs.Finding.{Finds};
 ghost use Rattle.meeting_index.specs.Given.{given_parts};
-ghost use Rattle.meeting_index.specs.Provided.{carrier_of, carriers_listed};
+ghost use Rattle.meeting_index.specs.Owners.{owner_of};
+ghost use Rattle.meeting_index.specs.Provided.{carrier_of, carriers_listed, listed_for_versions};
 
 use crate::given::Provided;
 use choice_set::NoMemory;
@@ -20,14 +21,46 @@ use deb_version::Version;
 use dep_fields::Op;
 use universe_parts::{ListedVersion, is_within};
 
+/// What carriers stand for: versions, or the packages of these.
+#[derive(Clone, Copy)]
+pub enum Sought {
+    Versions,
+    Packages,
+}
+
 /// The versions and what they provide. The carriers are numbered: the versions first, by their own numbers.
 #[derive(Clone, Copy)]
 pub struct Carriers<'t, 's, 'a> {
     pub versions: &'t [ListedVersion<'s, 'a>],
     pub provided: &'t [Provided<'a>],
+    pub sought: Sought,
 }
 
-/// Adds the versions of the carriers with these numbers that are within a bound.
+impl Carriers<'_, '_, '_> {
+    ghost use Rattle.meeting_index.specs.Owners.{sought_as};
+
+    /// What a version is sought as: itself, or its package.
+    pub fn sought_as(&self, version: u32) -> u32
+        ensures { result ≡ sought_as self.now.sought (map version_listed self.now.versions.now) version }
+    {
+        match self.sought {
+            Sought::Versions => version,
+            Sought::Packages => owner_of(self.versions, version),
+        }
+    }
+}
+
+// The package of a version.
+fn owner_of(versions: &[ListedVersion<'_, '_>], version: u32) -> u32
+    ensures { result ≡ owner_of (map version_listed versions.now) version }
+{
+    match versions.get(version as usize) {
+        Some(listed) => listed.package,
+        None => 0,
+    }
+}
+
+/// Adds what the carriers with these numbers that are within a bound stand for.
 pub fn add_met(
     met: &mut Vec<u32>,
     carriers: &Carriers<'_, '_, '_>,
@@ -44,7 +77,7 @@ pub fn add_met(
     Ok(())
 }
 
-/// The version of the first of the carriers with these numbers that is within a bound, if there is any.
+/// What the first of the carriers with these numbers that is within a bound stands for, if there is any.
 pub fn first_met(
     carriers: &Carriers<'_, '_, '_>,
     bound: Option<(Op, Version<'_>)>,
@@ -60,13 +93,27 @@ pub fn first_met(
     None
 }
 
-// The version of the carrier with a number, if there is one and it is within a bound.
+// What the carrier with a number stands for, if there is one and it is within a bound.
 fn found(
     carriers: &Carriers<'_, '_, '_>,
     bound: Option<(Op, Version<'_>)>,
     number: u32,
 ) -> Option<u32>
     ensures { option_to_list result ≡ met_under (option_map bound_of bound.entry) (slice_get (carriers_listed carriers.now) number) }
+{
+    match version_found(carriers, bound, number) {
+        None => None,
+        Some(version) => Some(carriers.sought_as(version)),
+    }
+}
+
+// The version of the carrier with a number, if there is one and it is within a bound.
+fn version_found(
+    carriers: &Carriers<'_, '_, '_>,
+    bound: Option<(Op, Version<'_>)>,
+    number: u32,
+) -> Option<u32>
+    ensures { option_to_list result ≡ met_under (option_map bound_of bound.entry) (slice_get (listed_for_versions carriers.now) number) }
 {
     let place = number as usize;
     let own = carriers.versions.len();

@@ -1,6 +1,6 @@
 // The index of all versions.
 
-ghost use Rattle.std.specs.Prelude.{◌≡◌, ◌≤◌, ◌||◌, ℕ, length, map, nat_lt, None, IsTrue, IfOk, IfSome, OnOk};
+ghost use Rattle.std.specs.Prelude.{◌≡◌, ◌≤◌, ◌&&◌, ◌||◌, ℕ, length, map, nat_lt, None, IsTrue, IfOk, IfSome, OnOk};
 ghost use Rattle.std.specs.List.{flat_map, list_all, list_any};
 ghost use Rattle.lists.specs.Sets.{has, is_rising};
 ghost use Rattle.dep_fields.specs.Relationships.{meaning};
@@ -8,36 +8,28 @@ ghost use Rattle.dep_fields.specs.Views.{group_items};
 ghost use Rattle.problem.specs.Limits.{most_versions};
 ghost use Rattle.universe_model.specs.Lists.{numbers_of};
 ghost use Rattle.universe_model.specs.Meeting.{meets, meets_any};
+ghost use Rattle.universe_model.specs.Versions.{is_of};
 ghost use Rattle.universe_parts.specs.Listed.{version_listed};
 ghost use Rattle.meeting_index.specs.Carriers.{carried};
 ghost use Rattle.meeting_index.specs.Covered.{IsCovered};
 ghost use Rattle.meeting_index.specs.Finding.{Finds};
 ghost use Rattle.meeting_index.specs.Keys.{IsKeyOf};
+ghost use Rattle.meeting_index.specs.Owners.{owner_of};
 
 use crate::crowds::{Crowds, add_crowd, crowd_carriers, edge_of_crowd, is_crowd, one_of_crowd};
-use crate::found::{Carriers, add_met, first_met};
+use crate::found::{Carriers, Sought, add_met, first_met};
 use crate::given::Provided;
 use crate::items::{covers, order};
 use crate::keys::{AnswerKey, Span, span_of};
 use crate::naming::name_carriers;
 use crate::provided::list_provided;
 use crate::table::NamedNumbers;
+use crate::targets::Targets;
 use choice_set::{NoMemory, make_rising};
 use dep_fields::{Group, Item};
 use std::alloc::Global;
 use std::marker::Model;
 use universe_parts::{ListedVersion, is_plain};
-
-// Leaves each number once where there are many more than were left the last time. Answers how many were left.
-fn thin_out(numbers: &mut Vec<u32>, left: usize) -> usize
-    ensures { (number : ℕ) → has numbers.new.items number ≡ has numbers.old.items number }
-{
-    if numbers.len() / 2 <= left.saturating_add(65_536) {
-        return left;
-    }
-    make_rising(numbers);
-    numbers.len()
-}
 
 // Whether the last item, if there is one, covers another one.
 fn is_covered(last: Option<Item<'_>>, item: &Item<'_>) -> bool
@@ -59,6 +51,8 @@ pub struct MeetingIndex<'s, 'a> {
     named: NamedNumbers<'a>,
     // the carriers of the names that many carry, so that those within a bound are found by halves
     crowds: Crowds<'a>,
+    // the same for the packages of the versions
+    owners: Crowds<'a>,
 }
 
 impl<'s, 'a> Model for MeetingIndex<'s, 'a> {
@@ -92,14 +86,22 @@ impl<'s, 'a> MeetingIndex<'s, 'a> {
         let carriers = Carriers {
             versions,
             provided: provided.as_slice(),
+            sought: Sought::Versions,
         };
         let crowds = crowd_carriers(alloc, &named, &carriers)?;
+        let for_packages = Carriers {
+            versions,
+            provided: provided.as_slice(),
+            sought: Sought::Packages,
+        };
+        let owners = crowd_carriers(alloc, &named, &for_packages)?;
         Ok(MeetingIndex {
             native,
             versions,
             provided,
             named,
             crowds,
+            owners,
         })
     }
 
@@ -117,17 +119,30 @@ impl<'s, 'a> MeetingIndex<'s, 'a> {
         Ok(())
     }
 
+    /// The packages with a version that meets an item, rising. Where there are many such versions, they are not listed for it.
+    ///
+    /// The only error is `NoMemory`.
+    pub fn packages(&self, item: &Item<'a>, packages: &mut Vec<u32>) -> Result<(), NoMemory>
+        ensures packages { OnOk result ((q : ℕ) → has packages.new.items q ≡ list_any (λ v. is_of q v && meets self.now.native (meaning item.now) v) self.now.versions) }
+        ensures rising { OnOk result (IsTrue (is_rising packages.new.items)) }
+    {
+        packages.clear();
+        self.add_packages(item, packages)?;
+        make_rising(packages);
+        Ok(())
+    }
+
     /// The numbers of the versions that meet one of the items of a group, rising: the targets of the group.
     ///
     /// The only error is `NoMemory`.
-    pub fn targets(&self, group: &Group<'a>, targets: &mut Vec<u32>) -> Result<(), NoMemory>
-        ensures targets { OnOk result (targets.new.items ≡ numbers_of (meets_any self.now.native (group_items group.now)) self.now.versions) }
-        ensures rising { OnOk result (IsTrue (is_rising targets.new.items)) }
-        ensures within { OnOk result (IsTrue (list_all (λ v. nat_lt v (length self.now.versions)) targets.new.items)) }
+    pub fn targets(&self, group: &Group<'a>, targets: &mut Targets) -> Result<(), NoMemory>
+        ensures targets { OnOk result (targets.new.numbers.items ≡ numbers_of (meets_any self.now.native (group_items group.now)) self.now.versions) }
+        ensures rising { OnOk result (IsTrue (is_rising targets.new.numbers.items)) }
+        ensures within { OnOk result (IsTrue (list_all (λ v. nat_lt v (length self.now.versions)) targets.new.numbers.items)) }
     {
-        targets.clear();
+        targets.numbers.clear();
         self.add_group(group, targets)?;
-        make_rising(targets);
+        make_rising(&mut targets.numbers);
         Ok(())
     }
 
@@ -171,15 +186,15 @@ impl<'s, 'a> MeetingIndex<'s, 'a> {
     }
 
     // Adds the versions that meet one of the items of a group.
-    fn add_group(&self, group: &Group<'a>, met: &mut Vec<u32>) -> Result<(), NoMemory>
-        ensures { OnOk result ((c : ℕ) → has met.new.items c ≡ (has met.old.items c || has (flat_map (carried self.now.native self.now.versions) (group_items group.now)) c)) }
+    fn add_group(&self, group: &Group<'a>, targets: &mut Targets) -> Result<(), NoMemory>
+        ensures { OnOk result ((c : ℕ) → has targets.new.numbers.items c ≡ (has targets.old.numbers.items c || has (flat_map (carried self.now.native self.now.versions) (group_items group.now)) c)) }
     {
         if group.len() <= 8 {
-            return self.add_few(group, met);
+            return self.add_few(group, &mut targets.numbers);
         }
-        let mut items = self.plain_items(*met.allocator(), group)?;
+        let mut items = self.plain_items(*targets.numbers.allocator(), group)?;
         items.sort_unstable_by(|item, other| order(item, other));
-        self.add_many(items.as_slice(), met)
+        self.add_many(items.as_slice(), targets)
     }
 
     // Adds the versions that meet one of the items of a group, one item after another.
@@ -194,20 +209,28 @@ impl<'s, 'a> MeetingIndex<'s, 'a> {
 
     // Adds the versions that meet one of these items, but for those of which the last one that was looked at covers them. In
     // their order the carriers of a name are listed once for each operator.
-    fn add_many(&self, items: &[Item<'a>], met: &mut Vec<u32>) -> Result<(), NoMemory>
-        ensures { OnOk result ((c : ℕ) → has met.new.items c ≡ (has met.old.items c || has (flat_map (carried self.now.native self.now.versions) (map meaning items.now)) c)) }
+    fn add_many(&self, items: &[Item<'a>], targets: &mut Targets) -> Result<(), NoMemory>
+        ensures { OnOk result ((c : ℕ) → has targets.new.numbers.items c ≡ (has targets.old.numbers.items c || has (flat_map (carried self.now.native self.now.versions) (map meaning items.now)) c)) }
     {
+        targets.make_room(self.versions.len())?;
         let mut last = None;
-        let mut left = 0;
         for item in items {
             if is_covered(last, item) {
                 continue;
             }
-            self.add_met_by(item, met)?;
-            left = thin_out(met, left);
+            self.add_targets(item, targets)?;
             last = Some(*item);
         }
         Ok(())
+    }
+
+    // Adds those versions that meet an item and are not there yet.
+    fn add_targets(&self, item: &Item<'a>, targets: &mut Targets) -> Result<(), NoMemory>
+        ensures { OnOk result ((c : ℕ) → has targets.new.numbers.items c ≡ (has targets.old.numbers.items c || has (carried self.now.native self.now.versions (meaning item.now)) c)) }
+    {
+        targets.found.clear();
+        self.add_met_by(item, &mut targets.found)?;
+        targets.add_found()
     }
 
     // The items of a group that can be met, without their architectures.
@@ -252,6 +275,7 @@ impl<'s, 'a> MeetingIndex<'s, 'a> {
         let carriers = Carriers {
             versions: self.versions,
             provided: self.provided.as_slice(),
+            sought: Sought::Versions,
         };
         first_met(&carriers, item.rel, numbers)
     }
@@ -270,7 +294,28 @@ impl<'s, 'a> MeetingIndex<'s, 'a> {
         let carriers = Carriers {
             versions: self.versions,
             provided: self.provided.as_slice(),
+            sought: Sought::Versions,
         };
         add_met(met, &carriers, item.rel, numbers)
+    }
+
+    // Adds the packages of the versions whose carriers meet an item.
+    fn add_packages(&self, item: &Item<'a>, packages: &mut Vec<u32>) -> Result<(), NoMemory>
+        ensures { OnOk result ((q : ℕ) → has packages.new.items q ≡ (has packages.old.items q || has (map (owner_of self.now.versions) (carried self.now.native self.now.versions (meaning item.now))) q)) }
+    {
+        let plain = is_plain(self.native, item.arch);
+        if !plain {
+            return Ok(());
+        }
+        let numbers = self.named.at(item.name);
+        if is_crowd(numbers) {
+            return add_crowd(&self.owners, item.name, item.rel, packages);
+        }
+        let carriers = Carriers {
+            versions: self.versions,
+            provided: self.provided.as_slice(),
+            sought: Sought::Packages,
+        };
+        add_met(packages, &carriers, item.rel, numbers)
     }
 }

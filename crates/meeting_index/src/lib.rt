@@ -17,6 +17,8 @@ mod provided;
 mod ranges;
 mod sides;
 mod table;
+mod targets;
 
 pub use index::MeetingIndex;
 pub use keys::{AnswerKey, Span};
+pub use targets::Targets;

@@ -10,7 +10,7 @@ ghost use Rattle.meeting_index.specs.Crowds.{finds_as};
 ghost use Rattle.meeting_index.specs.Fitting.{carried_order, has_fitting, passes_with, version_parts};
 ghost use Rattle.meeting_index.specs.Members.{AreReal, IsFound};
 ghost use Rattle.lists.specs.Sets.{has};
-ghost use Rattle.meeting_index.specs.Provided.{carrier_of, carriers_listed};
+ghost use Rattle.meeting_index.specs.Provided.{carrier_of, carriers_listed, listed_for_versions};
 
 use crate::carried::Carried;
 use crate::found::Carriers;
@@ -80,6 +80,21 @@ fn add_member<'a>(
 // The carrier with a number, if there is one, and it has a version.
 fn member<'a>(carriers: &Carriers<'_, '_, 'a>, number: u32) -> Option<Carried<'a>>
     ensures found { IsFound (slice_get (carriers_listed carriers.now) number) result }
+    ensures number { IfSome result (λ y. y.carrier ≡ number) }
+{
+    match version_member(carriers, number) {
+        None => None,
+        Some(carried) => Some(Carried {
+            version: carried.version,
+            number: carriers.sought_as(carried.number),
+            carrier: carried.carrier,
+        }),
+    }
+}
+
+// The same, standing for its version.
+fn version_member<'a>(carriers: &Carriers<'_, '_, 'a>, number: u32) -> Option<Carried<'a>>
+    ensures found { IsFound (slice_get (listed_for_versions carriers.now) number) result }
     ensures number { IfSome result (λ y. y.carrier ≡ number) }
 {
     let place = number as usize;

@@ -1,3 +1,4 @@
+pub mod Bare
 pub mod Collecting
 pub mod Numbers
 pub mod Starts

@@ -1,5 +1,5 @@
 -- The dependencies of all versions, one version after another, and as a whole list.
-use Rattle.std.proofs.Common.{◌≡◌, ℕ, List, [], ◌∷◌, map, ap, sym, subst, ◌∙◌}
+use Rattle.std.proofs.Common.{◌≡◌, ℕ, List, [], map, ap, sym, subst, ◌∙◌}
 use Rattle.std.proofs.lemmas.List.{append-nil}
 use Rattle.resolver_model.specs.Problems.{Problem}
 use Rattle.meeting_index.specs.Indexes.{Indexed}

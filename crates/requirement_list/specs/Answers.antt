@@ -21,6 +21,10 @@ met_packages s item = filter (is_met_in s item) (below (length s.installed))
 abbrev pub left_by : Setting → Relationship → Extent → ℕ → Left
 left_by s item extent q = record { owner = q; versions = if lists extent q then unmet_in s item q else [] }
 
+-- a package, without versions
+abbrev pub bare : ℕ → Left
+bare q = record { owner = q; versions = [] }
+
 abbrev pub row_of : Setting → Relationship → Extent → List Left
 row_of s item extent = map (left_by s item extent) (met_packages s item)
 

@@ -1,6 +1,7 @@
 //! What was listed for items of Conflicts and Breaks, kept for when an item comes again that the same versions meet.
 
 ghost use Rattle.std.specs.Prelude.{◌≡◌, false, IsTrue, IfSome, OnOk};
+ghost use Rattle.std.specs.List.{list_any};
 ghost use Rattle.dep_fields.specs.Relationships.{Relationship};
 ghost use Rattle.meeting_index.specs.Keys.{IsKeyOf};
 ghost use Rattle.universe_model.specs.Dependencies.{Setting};
@@ -32,6 +33,18 @@ impl Extent {
             Extent::AllBut(other) => owner != other,
             Extent::Packages => false,
         }
+    }
+
+    /// Whether the versions of one of these packages are listed.
+    pub fn lists_one(self, packages: &[u32]) -> bool
+        ensures { result ≡ list_any (lists self) packages.now }
+    {
+        for package in packages {
+            if self.lists(*package) {
+                return true;
+            }
+        }
+        false
     }
 
     // Whether the versions of all packages but one are listed.

@@ -140,7 +140,7 @@ fn add_anew<'a>(
 {
     let extent = room.answers.extent_for(key, own, collected.past);
     let problem = collected.builder.parts();
-    list_row(index, problem, item, extent, &mut room.walk)?;
+    list_row(index, problem, item, key.is_some(), extent, &mut room.walk)?;
     let listed = &room.walk.listed;
     if let Some(key) = key {
         room.answers.keep(key, extent, listed)?;

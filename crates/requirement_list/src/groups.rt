@@ -17,7 +17,7 @@ use crate::Indexes;
 use crate::collected::{Collected, Field};
 use crate::installed::is_installed;
 use dep_fields::{AlternativesField, Group};
-use meeting_index::MeetingIndex;
+use meeting_index::{MeetingIndex, Targets};
 use problem::Parts;
 use universe_model::BuildEnd;
 
@@ -25,9 +25,9 @@ use universe_model::BuildEnd;
 fn list_targets<'a>(
     index: &MeetingIndex<'_, 'a>,
     group: &Group<'a>,
-    targets: &mut Vec<u32>,
+    targets: &mut Targets,
 ) -> Result<(), BuildEnd>
-    ensures { MatchResult result (λ _. AreTargets index.now (group_items group.now) targets.new.items) (λ end. end ≡ NoMemory) }
+    ensures { MatchResult result (λ _. AreTargets index.now (group_items group.now) targets.new.numbers.items) (λ end. end ≡ NoMemory) }
 {
     index.targets(group, targets)?;
     Ok(())
@@ -39,7 +39,7 @@ fn add_group<'a>(
     collected: &mut Collected,
     source: u32,
     group: &Group<'a>,
-    targets: &mut Vec<u32>,
+    targets: &mut Targets,
 ) -> Result<(), BuildEnd>
     requires owners { collected.old.builder.owners ≡ owners_of index.now.versions }
     requires source { source < length index.now.versions }
@@ -49,7 +49,7 @@ fn add_group<'a>(
         return collected.count_one();
     }
     list_targets(index, group, targets)?;
-    collected.add(source, targets.as_slice(), Field::Needs)
+    collected.add(source, targets.numbers.as_slice(), Field::Needs)
 }
 
 /// Adds the dependencies of Pre-Depends or of Depends. `targets` is room that is used again.
@@ -58,7 +58,7 @@ pub fn add_groups<'a>(
     collected: &mut Collected,
     source: u32,
     field: AlternativesField<'a>,
-    targets: &mut Vec<u32>,
+    targets: &mut Targets,
 ) -> Result<(), BuildEnd>
     requires owners { collected.old.builder.owners ≡ owners_of index.now.versions }
     requires source { source < length index.now.versions }
@@ -92,7 +92,7 @@ fn add_recommended<'a>(
     source: u32,
     place: u32,
     group: &Group<'a>,
-    targets: &mut Vec<u32>,
+    targets: &mut Targets,
 ) -> Result<(), BuildEnd>
     requires owners { collected.old.builder.owners ≡ owners_of indexes.now.all.versions }
     requires installed { HasInstalled collected.old.builder.starts indexes.now }
@@ -108,7 +108,7 @@ fn add_recommended<'a>(
         return collected.count_one();
     }
     list_targets(&indexes.all, group, targets)?;
-    collected.add(source, targets.as_slice(), Field::Recommends(place))
+    collected.add(source, targets.numbers.as_slice(), Field::Recommends(place))
 }
 
 // The place behind one. More places than there are numbers are a want of memory.
@@ -127,7 +127,7 @@ pub fn add_recommends<'a>(
     collected: &mut Collected,
     source: u32,
     field: AlternativesField<'a>,
-    targets: &mut Vec<u32>,
+    targets: &mut Targets,
 ) -> Result<(), BuildEnd>
     requires owners { collected.old.builder.owners ≡ owners_of indexes.now.all.versions }
     requires installed { HasInstalled collected.old.builder.starts indexes.now }

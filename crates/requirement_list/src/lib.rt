@@ -22,7 +22,7 @@ mod walk;
 use answers::Answers;
 use collected::Collected;
 use installed::list_installed;
-use meeting_index::MeetingIndex;
+use meeting_index::{MeetingIndex, Targets};
 use problem::{Builder, Problem};
 use std::alloc::Global;
 use universe_model::BuildEnd;
@@ -49,7 +49,7 @@ struct Indexes<'i, 's, 'a> {
 // Room that is used again for each dependency, and what was listed of items of Conflicts and Breaks.
 #[derive(Drop)]
 struct Room {
-    targets: Vec<u32>,
+    targets: Targets,
     walk: Walk,
     answers: Answers,
 }
@@ -79,7 +79,7 @@ pub fn list_requirements<'s, 'a>(
     let indexes = Indexes { all, installed };
     let mut collected = Collected::new(alloc, builder);
     let mut room = Room {
-        targets: Vec::new(alloc),
+        targets: Targets::new(alloc),
         walk: Walk::new(alloc),
         answers: Answers::new(alloc),
     };

@@ -13,7 +13,7 @@ ghost use Rattle.universe_model.specs.Meeting.{meets};
 ghost use Rattle.universe_model.specs.declared.BuildEnd.TheVariants as build_end;
 ghost use Rattle.requirement_list.specs.Settings.{owners_of, setting_in};
 ghost use Rattle.requirement_list.specs.Conflicts.{unmet, left_of, package_left, AreLeft};
-ghost use Rattle.requirement_list.specs.Answers.{row_of};
+ghost use Rattle.requirement_list.specs.Answers.{bare, row_of};
 
 use crate::answers::Extent;
 use crate::left::LeftTable;
@@ -24,10 +24,12 @@ use problem::Parts;
 use std::alloc::Global;
 use universe_model::BuildEnd;
 
-/// Room for a walk: the versions that meet an item, those of a package that do not, and the packages that are listed.
+/// Room for a walk: the packages that an item concerns, the versions that meet it, those of a package that do not, and what is
+/// listed.
 #[derive(Drop)]
 pub struct Walk {
-    pub met: Vec<u32>,
+    packages: Vec<u32>,
+    met: Vec<u32>,
     left: Vec<u32>,
     pub listed: LeftTable,
 }
@@ -36,6 +38,7 @@ impl Walk {
     /// Empty room.
     pub fn new(alloc: Global) -> Walk {
         Walk {
+            packages: Vec::new(alloc),
             met: Vec::new(alloc),
             left: Vec::new(alloc),
             listed: LeftTable::new(alloc),
@@ -143,10 +146,47 @@ fn list_package(
     Ok(())
 }
 
-/// Lists the packages with a version that meets an item, each with its versions that do not, where they are asked for.
+// Lists packages, without versions.
+fn list_owners(packages: &[u32], listed: &mut LeftTable) -> Result<(), NoMemory>
+    ensures { OnOk result (listed.new ≡ map bare packages.now) }
+{
+    listed.clear();
+    for package in packages {
+        listed.push(*package, &[])?;
+    }
+    Ok(())
+}
+
+/// Lists the packages with a version that meets an item, each with its versions that do not, where they are asked for. Where
+/// there may be many versions, they are looked at only if those of one of the packages are asked for.
 ///
 /// The only error is `NoMemory`.
 pub fn list_row<'a>(
+    index: &MeetingIndex<'_, 'a>,
+    problem: &Parts,
+    item: &Item<'a>,
+    many: bool,
+    extent: Extent,
+    walk: &mut Walk,
+) -> Result<(), BuildEnd>
+    requires { problem.now.owners ≡ owners_of index.now.versions }
+    ensures { MatchResult result (λ _. walk.new.listed ≡ row_of (setting_in index.now problem.now) (meaning item.now) extent) (λ end. end ≡ build_end.NoMemory) }
+{
+    if !many {
+        return list_met(index, problem, item, extent, walk);
+    }
+    // it tells that each version is of a package
+    let _versions = problem.versions();
+    index.packages(item, &mut walk.packages)?;
+    if extent.lists_one(walk.packages.as_slice()) {
+        return list_met(index, problem, item, extent, walk);
+    }
+    list_owners(walk.packages.as_slice(), &mut walk.listed)?;
+    Ok(())
+}
+
+// The same, by a walk over the versions that meet the item.
+fn list_met<'a>(
     index: &MeetingIndex<'_, 'a>,
     problem: &Parts,
     item: &Item<'a>,

@@ -1,52 +1,16 @@
--- The carrier with a number is the version with it, or what is provided at the place behind all versions.
-use Rattle.std.proofs.Common.{◌≡◌, ◌∙◌, sym, ap, zero-add, map, length, ◌-◌, None, Some, Option, get_or, subst}
-use Rattle.std.specs.List.{slice_get}
-use Rattle.std.specs.Option.{option_map}
-use Rattle.std.proofs.lemmas.Option.{slice_get-map, slice_get-get_or, slice_get_past}
-use Rattle.meeting_index.specs.Carriers.{Carrier, own}
-use Rattle.meeting_index.specs.Members.{IsFound}
-use Rattle.meeting_index.specs.Provided.{carrier_of, carriers_listed}
-use Rattle.meeting_index.proofs.CarrierLists.{carrier-behind, slice_get-own}
+-- The carrier for its version, and what that is sought as.
+use Rattle.std.proofs.Common.{map, refl}
+use Rattle.meeting_index.specs.Provided.{listed_for_versions}
+use Rattle.meeting_index.proofs.Owners.{is-for, none-is-for}
 use Rattle.universe_parts.specs.Listed.{version_listed}
 use Rattle.meeting_index.proofs.members.member.Goals as goal
 
-pub returns-then-place-own : goal.returns-then-place-own
-returns-then-place-own c =
-    let versions = c.args.carriers.now.versions.now in
-    let place = c.args.number in
-    let version = get_or versions place c.index-carriers-place.result in
-    let there : slice_get (map version_listed versions) place ≡ Some (version_listed version) =
-    slice_get-map version_listed versions place
-    ∙ ap (option_map version_listed) (slice_get-get_or versions place c.index-carriers-place.result c.if-place-own.true) in
-    let is : slice_get (carriers_listed c.args.carriers.now) place ≡ Some (own place (version_listed version)) =
-    slice_get-own 0 (map version_listed versions) (map carrier_of c.args.carriers.now.provided.now) place (version_listed version) there
-    ∙ ap (λ m. Some (own m (version_listed version))) (zero-add place) in
-    record {
-      found = subst (λ (found : Option Carrier). IsFound found c.own_member.result) (sym is) c.own_member.ensures.found;
-      number = c.own_member.ensures.number;
-    }
+pub returns-in-Some-clause-found : goal.returns-in-Some-clause-found
+returns-in-Some-clause-found c =
+    let carriers = c.args.carriers.now in
+    is-for carriers.sought (map version_listed carriers.versions.now) (listed_for_versions carriers) c.args.number c.in-Some.carried _ refl c.sought_as.ensures c.in-Some.ensures.found
 
-pub returns-then-place-own-2 : goal.returns-then-place-own-2
-returns-then-place-own-2 c =
-    let provided = c.args.carriers.now.provided.now in
-    let place = c.args.number - length c.args.carriers.now.versions.now in
-    let item = get_or provided place c.index-carriers-place-then-place-own-2.result in
-    let there : slice_get (map carrier_of provided) place ≡ Some (carrier_of item) =
-    slice_get-map carrier_of provided place
-    ∙ ap (option_map carrier_of) (slice_get-get_or provided place c.index-carriers-place-then-place-own-2.result c.if-place-own-2.true) in
-    record {
-      found = subst (λ (found : Option Carrier). IsFound found c.provided_member.result) (sym (carrier-behind c.args.carriers.now c.args.number c.if-place-own.false ∙ there))
-          c.provided_member.ensures.found;
-      number = c.provided_member.ensures.number;
-    }
-
-pub returns-else-place-own-2 : goal.returns-else-place-own-2
-returns-else-place-own-2 c =
-    let provided = c.args.carriers.now.provided.now in
-    let place = c.args.number - length c.args.carriers.now.versions.now in
-    let none : slice_get (map carrier_of provided) place ≡ None =
-    slice_get-map carrier_of provided place ∙ ap (option_map carrier_of) (slice_get_past provided place c.if-place-own-2.false) in
-    record {
-      found = subst (λ (found : Option Carrier). IsFound found None) (sym (carrier-behind c.args.carriers.now c.args.number c.if-place-own.false ∙ none)) tt;
-      number = tt;
-    }
+pub returns-in-None-clause-found : goal.returns-in-None-clause-found
+returns-in-None-clause-found c =
+    let carriers = c.args.carriers.now in
+    none-is-for carriers.sought (map version_listed carriers.versions.now) (listed_for_versions carriers) c.args.number c.in-None.ensures.found

@@ -15,7 +15,7 @@ returns c =
     let vs = c.args.self.now.versions in
     on_ok_weaker c.add_many.result (λ added n.
     added n
-    ∙ ap (λ b. has c.args.met.now.items n || b)
+    ∙ ap (λ b. has c.args.targets.now.numbers.items n || b)
     (ap (λ (items : List Item). has (flat_map (carried native vs) (map meaning items)) n) c.as_slice.ensures.value
     ∙ carried-moved native vs c.in_ok-items.items.items c.sort_unstable_by.new.self.items c.sort_unstable_by.ensures.permutation n
     ∙ c.in_ok-items.ensures n)) c.add_many.ensures

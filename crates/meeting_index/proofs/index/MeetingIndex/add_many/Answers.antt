@@ -26,19 +26,19 @@ loop-item-preserved c =
     let xs = c.args.items.now in
     let i = c.loop-item.item-index in
     let item = c.item-item.result in
-    let met = c.loop-item.met.items in
+    let met = c.loop-item.targets.numbers.items in
     let find = carried native vs in
     record {
       all = λ n.
           let rest = has (flat_map find (map meaning (drop (i + 1) xs))) n in
-          ap (λ b. b || rest) (c.thin_out-left.ensures n ∙ c.in_ok-add_met_by.ensures n)
+          ap (λ b. b || rest) (c.in_ok-add_targets.ensures n)
           ∙ or-assoc (has met n) (has (find (meaning item)) n) rest
           ∙ ap (λ b. has met n || b) (sym (list_any-append (λ x. nat_eq x n) (find (meaning item)) (flat_map find (map meaning (drop (i + 1) xs)))))
           ∙ ap (λ (items : List Item). has met n || has (flat_map find (map meaning items)) n)
           (ap (λ x. x ∷ drop (i + 1) xs) c.item-item.is ∙ sym (drop_more xs i item c.loop-item-test.true))
           ∙ c.loop-item.invariant.all n;
       last = λ x same n.
-          let now = c.thin_out-left.ensures n ∙ c.in_ok-add_met_by.ensures n in
+          let now = c.in_ok-add_targets.ensures n in
           ap (λ b. b || has (find (meaning x)) n) now
           ∙ ap (λ (y : Item). (has met n || has (find (meaning item)) n) || has (find (meaning y)) n) (sym (same-item item x same))
           ∙ or-twice (has met n) (has (find (meaning item)) n)
@@ -52,7 +52,7 @@ loop-item-preserved-then-is_covered c =
     let xs = c.args.items.now in
     let i = c.loop-item.item-index in
     let item = c.item-item.result in
-    let met = c.loop-item.met.items in
+    let met = c.loop-item.targets.numbers.items in
     let find = carried native vs in
     record {
       all = λ n.

@@ -9,7 +9,7 @@ use Rattle.meeting_index.proofs.index.MeetingIndex.add_many.Given as goal
 -- what is found so far, and by the items that are left, is all, and what the last item finds was found
 abbrev pub invariant-loop-item : goal.invariant-loop-item
 invariant-loop-item l = record {
-  all : (c : ℕ) → (has l.met.items c || has (flat_map (carried l.self.native l.self.versions) (map meaning (drop l.item-index l.items))) c)
-      ≡ (has l.initial.met.items c || has (flat_map (carried l.self.native l.self.versions) (map meaning l.items)) c);
-  last : ForSome l.last (λ item. (c : ℕ) → (has l.met.items c || has (carried l.self.native l.self.versions (meaning item)) c) ≡ has l.met.items c);
+  all : (c : ℕ) → (has l.targets.numbers.items c || has (flat_map (carried l.self.native l.self.versions) (map meaning (drop l.item-index l.items))) c)
+      ≡ (has l.initial.targets.numbers.items c || has (flat_map (carried l.self.native l.self.versions) (map meaning l.items)) c);
+  last : ForSome l.last (λ item. (c : ℕ) → (has l.targets.numbers.items c || has (carried l.self.native l.self.versions (meaning item)) c) ≡ has l.targets.numbers.items c);
 }

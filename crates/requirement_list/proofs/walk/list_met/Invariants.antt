@@ -3,7 +3,7 @@ use Rattle.dep_fields.specs.Relationships.{meaning}
 use Rattle.requirement_list.specs.Settings.{setting_in}
 use Rattle.requirement_list.specs.Answers.{left_by, row_of}
 use Rattle.requirement_list.proofs.Concerned.{packages_from, owner_at}
-use Rattle.requirement_list.proofs.walk.list_row.Given as goal
+use Rattle.requirement_list.proofs.walk.list_met.Given as goal
 
 abbrev pub invariant-loop-place : goal.invariant-loop-place
 invariant-loop-place l =
