@@ -5,7 +5,7 @@ use dep_fields::Groups;
 use meeting_index::{MeetingIndex, Targets};
 use stanza::Stanza;
 use std::test::Fail;
-use universe_parts::{ListedVersion, ReadStanza};
+use universe_parts::{ListedVersion, Names, ReadStanza};
 
 #[test]
 fn met_by_a_provided_name(rt: HostRuntime) -> Result<(), Fail> {
@@ -33,7 +33,9 @@ fn met_by_a_provided_name(rt: HostRuntime) -> Result<(), Fail> {
             read: Some(&read),
         },
     ];
-    let index = MeetingIndex::new(alloc, b"amd64", &versions)?;
+    let mut names = Names::new(alloc)?;
+    assert_eq!(rt; names.add(alloc, b"p")?, 0);
+    let index = MeetingIndex::new(alloc, b"amd64", &versions, &names)?;
     let Ok(Some(group)) = Groups::new(b"w | v (>> 2)", true).next() else {
         return Err(Fail::new("no group"));
     };

@@ -1,5 +1,5 @@
 -- What stands in a list of carriers, and crowds at their names.
-use Rattle.std.proofs.Common.{◌≡◌, ℕ, ◌∙◌, sym, ap, refl, subst, List, [], ◌∷◌, map, Bool, true, false, cond, ◌&&◌, ◌||◌, nat_eq, nat_lt, Option, Some, None, is_some, length, ◌⊎◌, inl, inr}
+use Rattle.std.proofs.Common.{◌≡◌, ◌<◌, arith, ℕ, ◌∙◌, sym, ap, refl, subst, List, [], ◌∷◌, map, Bool, true, false, cond, ◌&&◌, ◌||◌, nat_eq, nat_lt, Option, Some, None, is_some, length, ◌⊎◌, inl, inr}
 use Rattle.std.specs.List.{dedup, dedup_from, filter, list_any}
 use Rattle.std.specs.List.Sorted.{IsPermutation}
 use Rattle.std.specs.Map.{lookup}
@@ -8,6 +8,7 @@ use Rattle.std.specs.Ordering.{is_eq, nat_cmp, ordering_then}
 use Rattle.std.specs.declared.cmp.Ordering.{Ordering}
 use Rattle.std.specs.declared.cmp.Ordering.TheVariants.{Less, Equal, Greater}
 use Rattle.std.specs.FinMap.{nat_cmp-IsAntisymmetric}
+use Rattle.std.proofs.lemmas.Bool.{lt-ltb, ltb-true}
 use Rattle.std.proofs.lemmas.List.{length-map}
 use Rattle.std.proofs.lemmas.List.Sorted.{list_any-IsPermutation}
 use Rattle.lists.specs.Sets.{has}
@@ -25,13 +26,14 @@ use Rattle.meeting_index.specs.Carriers.{Carrier}
 use Rattle.meeting_index.specs.Crowds.{AreRight, HasCrowd, IsCrowdOf, IsRealCrowd, crowds_have, finds_as, is_crowd, kept_has}
 use Rattle.meeting_index.specs.Fitting.{carried_number, carried_order, carried_parts, fits, fits_as, has_fitting, is_past, version_parts}
 use Rattle.meeting_index.specs.Named.{has_bytes, has_same, named_number, numbers_in}
-use Rattle.meeting_index.specs.Tables.{numbers_at}
+use Rattle.meeting_index.specs.NameTables.{numbers_at}
 use Rattle.meeting_index.specs.declared.carried.Carried.{Carried}
 use Rattle.meeting_index.specs.declared.crowd.Crowd.{Crowd}
 use Rattle.meeting_index.specs.declared.crowds.Crowds.{Crowds}
 use Rattle.meeting_index.specs.declared.named.Name.{Name}
 use Rattle.meeting_index.specs.declared.named.Named.{Named}
-use Rattle.meeting_index.specs.declared.table.NamedNumbers.{NamedNumbers}
+use Rattle.meeting_index.specs.declared.rows.NumberRow.{NumberRow}
+use Rattle.meeting_index.specs.declared.rows.NamedNumbers.{NamedNumbers}
 use Rattle.meeting_index.proofs.NamedRuns.{is_eq-same, same-bytes}
 
 or-comm : (a b : Bool) → (a || b) ≡ (b || a)
@@ -231,3 +233,12 @@ filter-some test (x ∷ xs) many =
 pub crowded-stands : (names : List Named) (bytes : List ℕ) → is_crowd (numbers_in names bytes) ≡ true → list_any (has_bytes bytes) names ≡ true
 crowded-stands names bytes many =
     filter-some (has_bytes bytes) names (ap (nat_lt 16) (sym (length-map (filter (has_bytes bytes) names) named_number)) ∙ many)
+
+-- what is crowded has numbers
+pub some-crowded : (numbers : List ℕ) → is_crowd numbers ≡ true → nat_lt 0 (length numbers) ≡ true
+some-crowded numbers many = let more : 16 < length numbers = ltb-true 16 (length numbers) many in lt-ltb 0 (length numbers) (omega arith)
+
+-- one of the rows, if there is any
+pub some-row : (rows : List NumberRow) (place : ℕ) → place < length rows → NumberRow
+some-row [] place within = absurd (omega arith)
+some-row (row ∷ rows) place within = row

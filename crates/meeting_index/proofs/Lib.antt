@@ -7,6 +7,7 @@ pub mod Edges
 pub mod Fewness
 pub mod Finding
 pub mod NamedRuns
+pub mod NumberRows
 pub mod Numbers
 pub mod Owners
 pub mod Shares

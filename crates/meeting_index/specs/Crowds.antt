@@ -11,11 +11,11 @@ use Rattle.meeting_index.specs.Members.{IsReal}
 use Rattle.meeting_index.specs.Spans.{span_of}
 use Rattle.meeting_index.specs.declared.carried.Carried.{Carried}
 use Rattle.meeting_index.specs.Named.{has_same}
-use Rattle.meeting_index.specs.Tables.{numbers_at}
+use Rattle.meeting_index.specs.NameTables.{numbers_at}
 use Rattle.meeting_index.specs.declared.crowd.Crowd.{Crowd}
 use Rattle.meeting_index.specs.declared.crowds.Crowds.{Crowds}
 use Rattle.meeting_index.specs.declared.named.Name.{Name}
-use Rattle.meeting_index.specs.declared.table.NamedNumbers.{NamedNumbers}
+use Rattle.meeting_index.specs.declared.rows.NamedNumbers.{NamedNumbers}
 
 -- whether one of a crowd passes a bound, and stands for the version c
 abbrev pub crowd_has : Crowd → Option VersionBound → ℕ → Bool
@@ -88,3 +88,8 @@ pub record HasCrowd (carriers : List Carrier) (named : NamedNumbers) (crowds : C
 -- each name has no crowd, or has that of its carriers
 abbrev pub AreRight : List Carrier → NamedNumbers → Crowds → Type 0
 AreRight carriers named crowds = (name : Name) → (lookup (has_same name) crowds.by_name.entries ≡ None) ⊎ HasCrowd carriers named crowds name
+
+-- where these bytes are crowded, each name that has them has its crowd
+abbrev pub ArePut : List Carrier → NamedNumbers → Crowds → List ℕ → Type 0
+ArePut carriers named crowds bytes =
+    is_crowd (numbers_at named bytes) ≡ true → (name : Name) → is_same bytes name.bytes.now ≡ true → HasCrowd carriers named crowds name

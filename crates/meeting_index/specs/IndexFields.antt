@@ -10,8 +10,8 @@ use Rattle.meeting_index.specs.Carriers.{all_provided, carriers, is_named}
 use Rattle.meeting_index.specs.Crowds.{IsRealCrowd, crowds_have, is_crowd, meets_under}
 use Rattle.meeting_index.specs.Named.{has_same}
 use Rattle.meeting_index.specs.declared.crowd.Crowd.{Crowd}
+use Rattle.meeting_index.specs.NameTables.{numbers_at}
 use Rattle.meeting_index.specs.Owners.{for_package}
-use Rattle.meeting_index.specs.Tables.{numbers_at}
 use Rattle.meeting_index.specs.Provided.{carrier_of}
 use Rattle.meeting_index.specs.declared.index.MeetingIndex.TheInside.{Inside}
 use Rattle.meeting_index.specs.declared.named.Name.{Name}

@@ -11,10 +11,12 @@ pub mod Indexes
 pub mod Keys
 pub mod Members
 pub mod Named
+pub mod NameTables
 pub mod NamedLaws
 pub mod Numbers
 pub mod Owners
 pub mod Provided
+pub mod Rows
 pub mod Spans
 pub mod Starts
 pub mod Tables

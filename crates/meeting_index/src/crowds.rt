@@ -1,22 +1,24 @@
 // The carriers of the names that many carry.
 
-ghost use Rattle.std.specs.Prelude.{◌≡◌, ℕ, true, ◌||◌, None, Some, Option, false, if◌then◌else◌, IfOk, MatchOption, OnOk};
+ghost use Rattle.std.specs.Prelude.{◌≡◌, ◌<◌, ℕ, length, slice_index_or, true, ◌||◌, None, Some, Option, false, if◌then◌else◌, IfOk, MatchOption, OnOk};
 ghost use Rattle.std.specs.Option.{option_map};
 ghost use Rattle.std.specs.Map.{lookup};
 ghost use Rattle.ascii.specs.Texts.{is_same};
 ghost use Rattle.dep_fields.specs.Relationships.{bound_of};
 ghost use Rattle.lists.specs.Sets.{has};
-ghost use Rattle.meeting_index.specs.Crowds.{AreRight, HasCrowd, HasEdge, IsCrowdOf, crowds_have, is_crowd};
+ghost use Rattle.meeting_index.specs.Crowds.{ArePut, AreRight, HasCrowd, HasEdge, IsCrowdOf, crowds_have, is_crowd};
 ghost use Rattle.meeting_index.specs.Finding.{Finds};
 ghost use Rattle.meeting_index.specs.Named.{has_same};
 ghost use Rattle.meeting_index.specs.Provided.{carriers_listed};
-ghost use Rattle.meeting_index.specs.Tables.{numbers_at};
+ghost use Rattle.meeting_index.specs.NameTables.{numbers_at};
+ghost use Rattle.meeting_index.specs.declared.named.Named.{Named};
+ghost use Rattle.meeting_index.specs.declared.rows.NumberRow.{NumberRow};
 
 use crate::crowd::Crowd;
 use crate::found::{Carriers, add_met};
 use crate::members::members;
 use crate::named::Name;
-use crate::table::NamedNumbers;
+use crate::rows::NamedNumbers;
 use choice_set::{NoMemory, make_rising};
 use deb_version::Version;
 use dep_fields::Op;
@@ -39,7 +41,7 @@ pub fn is_crowd(numbers: &[u32]) -> bool
 /// The carriers of all names that are crowded.
 pub fn crowd_carriers<'a>(
     alloc: Global,
-    named: &NamedNumbers<'a>,
+    named: &NamedNumbers<'_, 'a>,
     carriers: &Carriers<'_, '_, 'a>,
 ) -> Result<Crowds<'a>, NoMemory>
     ensures { IfOk result (λ crowds. (name : Name) → is_crowd (numbers_at named.now name.bytes.now) ≡ true → HasCrowd (carriers_listed carriers.now) named.now crowds name) }
@@ -47,23 +49,56 @@ pub fn crowd_carriers<'a>(
     let mut crowds = Crowds {
         by_name: BTreeMap::new(alloc),
     };
-    for name in named.names() {
-        crowd_name(alloc, &mut crowds, named, carriers, name.bytes)?;
-    }
+    crowd_packages(alloc, &mut crowds, named, carriers)?;
+    crowd_others(alloc, &mut crowds, named, carriers)?;
     Ok(crowds)
+}
+
+// Makes the crowds of the names of packages.
+fn crowd_packages<'a>(
+    alloc: Global,
+    crowds: &mut Crowds<'a>,
+    named: &NamedNumbers<'_, 'a>,
+    carriers: &Carriers<'_, '_, 'a>,
+) -> Result<(), NoMemory>
+    requires { AreRight (carriers_listed carriers.now) named.now crowds.old }
+    ensures right { OnOk result (AreRight (carriers_listed carriers.now) named.now crowds.new) }
+    ensures there { OnOk result ((k : ℕ) (d : NumberRow) → k < length named.now.rows.items → ArePut (carriers_listed carriers.now) named.now crowds.new (slice_index_or named.now.rows.items k d).bytes.now) }
+{
+    for row in named.rows() {
+        crowd_name(alloc, crowds, named, carriers, row.bytes)?;
+    }
+    Ok(())
+}
+
+// Makes the crowds of the other names.
+fn crowd_others<'a>(
+    alloc: Global,
+    crowds: &mut Crowds<'a>,
+    named: &NamedNumbers<'_, 'a>,
+    carriers: &Carriers<'_, '_, 'a>,
+) -> Result<(), NoMemory>
+    requires { AreRight (carriers_listed carriers.now) named.now crowds.old }
+    ensures there { OnOk result ((k : ℕ) (d : Named) → k < length named.now.others.names.items → ArePut (carriers_listed carriers.now) named.now crowds.new (slice_index_or named.now.others.names.items k d).bytes.now) }
+    ensures stay { OnOk result ((other : Name) → HasCrowd (carriers_listed carriers.now) named.now crowds.old other → HasCrowd (carriers_listed carriers.now) named.now crowds.new other) }
+{
+    for name in named.others() {
+        crowd_name(alloc, crowds, named, carriers, name.bytes)?;
+    }
+    Ok(())
 }
 
 // Makes the crowd of a name, if it is crowded and has none.
 fn crowd_name<'a>(
     alloc: Global,
     crowds: &mut Crowds<'a>,
-    named: &NamedNumbers<'a>,
+    named: &NamedNumbers<'_, 'a>,
     carriers: &Carriers<'_, '_, 'a>,
     name: &'a [u8],
 ) -> Result<(), NoMemory>
     requires { AreRight (carriers_listed carriers.now) named.now crowds.old }
     ensures right { OnOk result (AreRight (carriers_listed carriers.now) named.now crowds.new) }
-    ensures there { OnOk result (is_crowd (numbers_at named.now name.now) ≡ true → (other : Name) → is_same name.now other.bytes.now ≡ true → HasCrowd (carriers_listed carriers.now) named.now crowds.new other) }
+    ensures there { OnOk result (ArePut (carriers_listed carriers.now) named.now crowds.new name.now) }
     ensures stay { OnOk result ((other : Name) → HasCrowd (carriers_listed carriers.now) named.now crowds.old other → HasCrowd (carriers_listed carriers.now) named.now crowds.new other) }
 {
     let numbers = named.at(name);

@@ -23,13 +23,13 @@ use crate::items::{covers, order};
 use crate::keys::{AnswerKey, Span, span_of};
 use crate::naming::name_carriers;
 use crate::provided::list_provided;
-use crate::table::NamedNumbers;
+use crate::rows::NamedNumbers;
 use crate::targets::Targets;
 use choice_set::{NoMemory, make_rising};
 use dep_fields::{Group, Item};
 use std::alloc::Global;
 use std::marker::Model;
-use universe_parts::{ListedVersion, is_plain};
+use universe_parts::{ListedVersion, Names, is_plain};
 
 // Whether the last item, if there is one, covers another one.
 fn is_covered(last: Option<Item<'_>>, item: &Item<'_>) -> bool
@@ -48,7 +48,7 @@ pub struct MeetingIndex<'s, 'a> {
     native: &'s [u8],
     versions: &'s [ListedVersion<'s, 'a>],
     provided: Vec<Provided<'a>>,
-    named: NamedNumbers<'a>,
+    named: NamedNumbers<'s, 'a>,
     // the carriers of the names that many carry, so that those within a bound are found by halves
     crowds: Crowds<'a>,
     // the same for the packages of the versions
@@ -70,19 +70,21 @@ impl<'s, 'a> Model for MeetingIndex<'s, 'a> {
 }
 
 impl<'s, 'a> MeetingIndex<'s, 'a> {
-    /// An index of all versions, in order.
+    /// An index of all versions, in order. What these names are decides how fast it is, and not what it finds: they are best
+    /// those of the packages.
     ///
     /// The only error is `NoMemory`.
     pub fn new(
         alloc: Global,
         native: &'s [u8],
         versions: &'s [ListedVersion<'s, 'a>],
+        names: &'s Names,
     ) -> Result<MeetingIndex<'s, 'a>, NoMemory>
         requires { length versions.now ≤ most_versions }
         ensures { IfOk result (λ index. index ≡ record { native = native.now; versions = map version_listed versions.now }) }
     {
         let provided = list_provided(alloc, native, versions)?;
-        let named = name_carriers(alloc, versions, provided.as_slice())?;
+        let named = name_carriers(alloc, names, versions, provided.as_slice())?;
         let carriers = Carriers {
             versions,
             provided: provided.as_slice(),

@@ -15,6 +15,7 @@ mod named;
 mod naming;
 mod provided;
 mod ranges;
+mod rows;
 mod sides;
 mod table;
 mod targets;

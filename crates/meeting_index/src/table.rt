@@ -14,7 +14,7 @@ use std::alloc::Global;
 /// Numbers by name. The names stand in their order, and where those of each share of all hashes begin is kept beside them: so
 /// names that were not made for it are few in their share.
 #[derive(Drop)]
-pub struct NamedNumbers<'a> {
+pub struct SortedNumbers<'a> {
     names: Vec<Named<'a>>,
     numbers: Vec<u32>,
     starts: Vec<u32>,
@@ -23,18 +23,18 @@ pub struct NamedNumbers<'a> {
     ghost starts_are: { AreStarts names.items starts.items },
 }
 
-impl<'a> NamedNumbers<'a> {
-    ghost use Rattle.meeting_index.specs.Tables.{numbers_at};
+impl<'a> SortedNumbers<'a> {
+    ghost use Rattle.meeting_index.specs.Tables.{sorted_at};
 
     /// A table of names with their numbers. More of them than there are numbers are a want of memory.
-    pub fn new(alloc: Global, names: Vec<Named<'a>>) -> Result<NamedNumbers<'a>, NoMemory>
-        ensures { IfOk result (λ table. (name : List ℕ) (test : ℕ → Bool) → list_any test (numbers_at table name) ≡ list_any test (numbers_in names.entry.items name)) }
+    pub fn new(alloc: Global, names: Vec<Named<'a>>) -> Result<SortedNumbers<'a>, NoMemory>
+        ensures { IfOk result (λ table. (name : List ℕ) (test : ℕ → Bool) → list_any test (sorted_at table name) ≡ list_any test (numbers_in names.entry.items name)) }
     {
         let mut names = names;
         names.sort_unstable();
         let numbers = numbers_of(alloc, names.as_slice())?;
         let starts = starts_of(alloc, names.as_slice())?;
-        Ok(NamedNumbers {
+        Ok(SortedNumbers {
             names,
             numbers,
             starts,
@@ -50,7 +50,7 @@ impl<'a> NamedNumbers<'a> {
 
     /// The numbers at a name.
     pub fn at<'x>(&'x self, name: &'x [u8]) -> &'x [u32]
-        ensures { result.now ≡ numbers_at self.now name.now }
+        ensures { result.now ≡ sorted_at self.now name.now }
     {
         let sought = Named::new(name, 0);
         let (low, high) = self.bounds_of(sought.share());

@@ -26,7 +26,7 @@ use meeting_index::{MeetingIndex, Targets};
 use problem::{Builder, Problem};
 use std::alloc::Global;
 use universe_model::BuildEnd;
-use universe_parts::ListedVersion;
+use universe_parts::{ListedVersion, Names};
 use versions::add_versions;
 use walk::Walk;
 
@@ -56,7 +56,7 @@ struct Room {
 
 /// Lists the dependencies of all versions in order, as a problem over the packages of the builder, which has the installed
 /// versions as start versions. For each version they are one for each group of Pre-Depends, Depends and Recommends, and then
-/// those of Conflicts and of Breaks (Debian Policy 7.2 to 7.4).
+/// those of Conflicts and of Breaks (Debian Policy 7.2 to 7.4). The names are best those of the packages: they only make it fast.
 ///
 /// The errors are the limit of the count of dependencies, or else that of the count of their targets, where one is exceeded,
 /// and `NoMemory`.
@@ -64,6 +64,7 @@ pub fn list_requirements<'s, 'a>(
     alloc: Global,
     native: &'s [u8],
     versions: &'s [ListedVersion<'s, 'a>],
+    names: &'s Names,
     builder: Builder,
 ) -> Result<RequirementList, BuildEnd>
     requires owners { builder.owners ≡ owners_of (map version_listed versions.now) }
@@ -74,8 +75,8 @@ pub fn list_requirements<'s, 'a>(
     // it tells that there are not too many versions
     let _versions = builder.parts().versions();
     let kept = list_installed(alloc, builder.parts(), versions)?;
-    let all = MeetingIndex::new(alloc, native, versions)?;
-    let installed = MeetingIndex::new(alloc, native, kept.as_slice())?;
+    let all = MeetingIndex::new(alloc, native, versions, names)?;
+    let installed = MeetingIndex::new(alloc, native, kept.as_slice(), names)?;
     let indexes = Indexes { all, installed };
     let mut collected = Collected::new(alloc, builder);
     let mut room = Room {

@@ -20,11 +20,11 @@ use version_list::{Listing, list_versions};
 
 impl Universe {
     // The universe of the stanzas that count, or the first limit that it exceeds.
-    fn of_stanzas(
+    fn of_stanzas<'s, 'a>(
         alloc: Global,
         native: &[u8],
-        status: &[ReadStanza<'_>],
-        packages: &[ReadStanza<'_>],
+        status: &'s [ReadStanza<'a>],
+        packages: &'s [ReadStanza<'a>],
     ) -> Result<Universe, BuildEnd>
         ensures { MatchResult result (λ u. IsOfStanzas native.now (stanzas_read status.now packages.now) u) (λ end. IsEndOf native.now (stanzas_read status.now packages.now) end) }
     {
@@ -38,8 +38,8 @@ impl Universe {
             held,
             builder,
         } = list_versions(alloc, status, packages)?;
+        let list = list_requirements(alloc, native, versions.as_slice(), &names, builder)?;
         let versions = versions.as_slice();
-        let list = list_requirements(alloc, native, versions, builder)?;
         let known = known_versions(alloc, versions)?;
         let order = versions_in_order(alloc, versions)?;
         let native = Vec::from_slice(alloc, native)?;

@@ -1,42 +1,55 @@
--- Each name that is crowded stands in the table.
-use Rattle.std.proofs.Common.{◌≡◌, ◌<◌, ◌∙◌, ap, ℕ, true, get_or, subst, arith, ◌+◌, length}
-use Rattle.std.proofs.lemmas.List.{get_or_read}
+-- Each name that is crowded has a row, or stands among the others.
+use Rattle.std.proofs.Common.{◌≡◌, ◌<◌, ◌∙◌, ap, sym, refl, ℕ, List, [], Option, Some, None, true, get_or, arith, length, nat_lt, map}
+use Rattle.std.specs.List.{position}
+use Rattle.std.proofs.lemmas.Cmp.{nat_list_eq_equiv}
+use Rattle.std.proofs.lemmas.List.{get_or-map}
 use Rattle.std.proofs.lemmas.List.Folds.{Any-from_list_any}
-use borrow.Author.Count.{below_more}
+use Rattle.std.proofs.lemmas.List.Quantifiers.{position-Some}
 use Rattle.ascii.specs.Texts.{is_same}
-use Rattle.meeting_index.specs.Crowds.{HasCrowd, is_crowd}
+use Rattle.meeting_index.specs.Carriers.{Carrier}
+use Rattle.meeting_index.specs.Crowds.{ArePut, HasCrowd, is_crowd}
 use Rattle.meeting_index.specs.Named.{has_bytes, named_bytes}
 use Rattle.meeting_index.specs.Provided.{carriers_listed}
-use Rattle.meeting_index.specs.Tables.{numbers_at}
+use Rattle.meeting_index.specs.Rows.{chosen, row_numbers}
+use Rattle.meeting_index.specs.NameTables.{numbers_at}
+use Rattle.meeting_index.specs.Tables.{sorted_at}
+use Rattle.meeting_index.specs.declared.crowds.Crowds.{Crowds}
 use Rattle.meeting_index.specs.declared.named.Name.{Name}
 use Rattle.meeting_index.specs.declared.named.Named.{Named}
-use Rattle.meeting_index.proofs.CrowdLaws.{crowded-stands}
+use Rattle.meeting_index.specs.declared.rows.NamedNumbers.{NamedNumbers}
+use Rattle.meeting_index.specs.declared.rows.NumberRow.{NumberRow}
+use Rattle.meeting_index.proofs.CrowdLaws.{crowded-stands, some-crowded, some-row}
 use Rattle.meeting_index.proofs.NamedRuns.{same-bytes}
 use Rattle.meeting_index.proofs.crowds.crowd_carriers.Goals as goal
 
-pub loop-name-preserved : goal.loop-name-preserved
-loop-name-preserved c =
-    let carriers = carriers_listed c.args.carriers.now in
-    let named = c.args.named.now in
-    let items = c.names-name-items.result.now in
-    let i = c.loop-name.name-index in
-    let IsThere : Named → Type 0 = λ x. is_crowd (numbers_at named x.bytes.now) ≡ true → (other : Name) → is_same x.bytes.now other.bytes.now ≡ true → HasCrowd carriers named c.crowd_name.new.crowds other in
-    let there : (k : ℕ) → k < i + 1 → (d : Named) → IsThere (get_or items k d) =
-    below_more (λ k. (d : Named) → IsThere (get_or items k d)) i
-    (λ k lt d many other same. c.in_ok-crowd_name.ensures.stay other (c.loop-name.invariant.there k d lt many other same))
-    (λ d. subst IsThere (get_or_read items i c.name-item.result c.loop-name-test.true c.name-item.is d) (λ many other same. c.in_ok-crowd_name.ensures.there many other same)) in
-    record {
-      right = c.in_ok-crowd_name.ensures.right;
-      there = λ k d lt many other same. there k lt d many other same;
-    }
+module _ (carriers : List Carrier) (named : NamedNumbers) (crowds : Crowds)
+    (rows : (k : ℕ) (d : NumberRow) → k < length named.rows.items → ArePut carriers named crowds (get_or named.rows.items k d).bytes.now)
+    (others : (k : ℕ) (d : Named) → k < length named.others.names.items → ArePut carriers named crowds (get_or named.others.names.items k d).bytes.now) where
+  put-crowd : (bytes : List ℕ) (name : Name) → ArePut carriers named crowds bytes → bytes ≡ name.bytes.now → is_crowd (numbers_at named name.bytes.now) ≡ true → HasCrowd carriers named crowds name
+  put-crowd bytes name put is many =
+      put (ap (λ (b : List ℕ). is_crowd (numbers_at named b)) is ∙ many) name (ap (λ (b : List ℕ). is_same b name.bytes.now) is ∙ nat_list_eq_equiv.refl name.bytes.now)
+
+  crowded : (name : Name) (found : Option ℕ) → position (is_same name.bytes.now) named.names.now ≡ found
+      → is_crowd (chosen (map row_numbers named.rows.items) (sorted_at named.others name.bytes.now) found) ≡ true
+      → is_crowd (numbers_at named name.bytes.now) ≡ true → HasCrowd carriers named crowds name
+  crowded name None at here many =
+      let names = named.others.names.items in
+      let stands = Any-from_list_any (has_bytes name.bytes.now) names (crowded-stands names name.bytes.now here) in
+      put-crowd (get_or names stands.0 stands.1).bytes.now name (others stands.0 stands.1 stands.2)
+      (ap named_bytes stands.3 ∙ same-bytes stands.1.bytes.now name.bytes.now stands.4) many
+  crowded name (Some n) at here many =
+      let items = named.rows.items in
+      let bytes = name.bytes.now in
+      let found = position-Some (is_same bytes) named.names.now n [] at in
+      let within : n < length items = let less = found.0 in omega (arith, less, named.rows_are.long) in
+      let any = some-row items n within in
+      let some : nat_lt 0 (length (get_or items n any).numbers.items) ≡ true =
+      some-crowded (get_or items n any).numbers.items (ap is_crowd (sym (get_or-map row_numbers items n any [] within)) ∙ here) in
+      put-crowd (get_or items n any).bytes.now name (rows n any within)
+      (named.rows_are.bytes n any within some ∙ sym (same-bytes bytes (get_or named.names.now n []) found.1)) many
 
 pub returns : goal.returns
 returns c = λ name many.
-    let named = c.args.named.now in
-    let names = named.names.items in
-    let items = c.names-name-items.result.now in
-    let stands = Any-from_list_any (has_bytes name.bytes.now) names (crowded-stands names name.bytes.now many) in
-    let is : get_or items stands.0 stands.1 ≡ stands.1 = ap (λ ns. get_or ns stands.0 stands.1) c.names-name-items.ensures ∙ stands.3 in
-    c.loop-name.invariant.there stands.0 stands.1 (omega (arith, stands.2, c.loop-name-test.false, ap (λ ns. length ns) c.names-name-items.ensures))
-    (ap (λ b. is_crowd (numbers_at named b)) (ap named_bytes is ∙ same-bytes stands.1.bytes.now name.bytes.now stands.4) ∙ many) name
-    (ap (λ b. is_same b name.bytes.now) (ap named_bytes is) ∙ stands.4)
+    crowded (carriers_listed c.args.carriers.now) c.args.named.now c.crowd_others.new.crowds
+    (λ k d lt many other same. c.in_ok-crowd_others.ensures.stay other (c.in_ok-crowd_packages.ensures.there k d lt many other same))
+    c.in_ok-crowd_others.ensures.there name (position (is_same name.bytes.now) c.args.named.now.names.now) refl many many

@@ -3,7 +3,7 @@ use Rattle.std.proofs.Common.{◌≡◌, ◌∙◌, sym, subst, refl, List, ℕ,
 use Rattle.std.proofs.lemmas.Result.{on_ok_weaker}
 use Rattle.meeting_index.specs.Crowds.{IsCrowdOf}
 use Rattle.meeting_index.specs.Provided.{carriers_listed}
-use Rattle.meeting_index.specs.Tables.{numbers_at}
+use Rattle.meeting_index.specs.NameTables.{numbers_at}
 use Rattle.meeting_index.specs.declared.crowd.Crowd.{Crowd}
 use Rattle.meeting_index.proofs.CrowdLaws.{crowd-put, crowd-stay, crowd-there, crowds-right}
 use Rattle.meeting_index.proofs.crowds.crowd_name.Goals as goal

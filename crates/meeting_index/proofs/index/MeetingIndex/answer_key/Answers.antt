@@ -15,7 +15,7 @@ use Rattle.universe_parts.specs.Listed.{version_listed}
 use Rattle.meeting_index.specs.Crowds.{crowds_have, is_crowd}
 use Rattle.meeting_index.specs.Indexes.{Indexed}
 use Rattle.meeting_index.specs.Keys.{IsKeyOf}
-use Rattle.meeting_index.specs.Tables.{numbers_at}
+use Rattle.meeting_index.specs.NameTables.{numbers_at}
 use Rattle.meeting_index.specs.Spans.{span_of}
 use Rattle.meeting_index.specs.declared.keys.Span.{Span}
 use Rattle.meeting_index.specs.declared.keys.Span.TheVariants as span

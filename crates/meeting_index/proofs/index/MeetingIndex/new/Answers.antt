@@ -5,7 +5,7 @@ use Rattle.meeting_index.specs.Carriers.{Carrier, carriers, is_named, own}
 use Rattle.meeting_index.specs.Crowds.{IsRealCrowd}
 use Rattle.meeting_index.specs.Owners.{for_package}
 use Rattle.meeting_index.specs.Provided.{carrier_of}
-use Rattle.meeting_index.specs.Tables.{numbers_at}
+use Rattle.meeting_index.specs.NameTables.{numbers_at}
 use Rattle.meeting_index.specs.declared.named.Name.{Name}
 use Rattle.meeting_index.proofs.CarrierLists.{crowd-carriers}
 use Rattle.meeting_index.proofs.Owners.{numbers-for_package}

@@ -7,7 +7,7 @@ use Rattle.meeting_index.specs.Starts.{IsStart}
 use Rattle.meeting_index.specs.declared.named.Named.{Named}
 use Rattle.meeting_index.proofs.NamedRuns.{sorted-part}
 use Rattle.meeting_index.proofs.Shares.{share-filter}
-use Rattle.meeting_index.proofs.table.NamedNumbers.at.Goals as goal
+use Rattle.meeting_index.proofs.table.SortedNumbers.at.Goals as goal
 
 pub numbers_among-requires-clause-sorted : goal.numbers_among-requires-clause-sorted
 numbers_among-requires-clause-sorted c =

@@ -3,7 +3,7 @@ use Rattle.std.proofs.Common.{◌≡◌, ◌∙◌, ◌+◌, arith, ap, length, 
 use Rattle.std.proofs.lemmas.List.{length-map}
 use Rattle.meeting_index.specs.Named.{named_number}
 use Rattle.meeting_index.proofs.Shares.{start-kept, starts-rise}
-use Rattle.meeting_index.proofs.table.NamedNumbers.bounds_of.Goals as goal
+use Rattle.meeting_index.proofs.table.SortedNumbers.bounds_of.Goals as goal
 
 pub returns-clause-start : goal.returns-clause-start
 returns-clause-start c =
