@@ -11,9 +11,6 @@ use std::alloc::Global;
 use universe::Universe;
 use wanted::{Wanted, to_problem};
 
-// The most bytes that a universe reads of one file.
-const MOST_BYTES: usize = 268_435_456;
-
 /// A universe, and a problem beside it with its table.
 #[derive(Drop)]
 pub struct Scene {
@@ -77,9 +74,6 @@ pub fn scene_of(
     packages: &[u8],
     actions: &[String],
 ) -> Option<Scene> {
-    if status.len() > MOST_BYTES || packages.len() > MOST_BYTES {
-        return None;
-    }
     let Ok(universe) = Universe::build(alloc, status, packages, b"amd64") else {
         return None;
     };

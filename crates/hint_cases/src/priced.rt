@@ -18,9 +18,6 @@ use std::{fs, io};
 use universe::{BuildEnd, Universe};
 use wanted::{Wanted, WantedEnd, to_problem};
 
-// The most bytes that a universe reads of one file.
-const MOST_BYTES: usize = 268_435_456;
-
 // Bytes as text; `?` where they are none.
 fn text(bytes: &[u8]) -> &str {
     std::str::from_utf8(bytes).unwrap_or("?")
@@ -216,9 +213,6 @@ pub fn run_files<R: Files + AllocGlobal + Print>(
     }
     let status = read_file(rt, &settings.status);
     let packages = read_file(rt, &settings.packages);
-    if status.len() > MOST_BYTES || packages.len() > MOST_BYTES {
-        return println!(rt; "a file is too long");
-    }
     match Universe::build(rt.alloc(), &status, &packages, settings.arch.as_bytes()) {
         Ok(universe) => write_universe(rt, &universe, settings, set),
         Err(BuildEnd::BadInput { file, line, kind }) => {

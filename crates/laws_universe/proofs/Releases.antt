@@ -1,18 +1,15 @@
 -- What holds of each version of stanzas: its package, and what is read of it.
-use Rattle.std.proofs.Common.{◌≡◌, ℕ, ◌+◌, ◌<◌, ◌≤◌, true, List, length, get_or, map, refl, arith, All, Some, None, Option, filter, IsTrue, le-leb}
-use Rattle.std.specs.List.{list_all}
+use Rattle.std.proofs.Common.{◌≡◌, ℕ, ◌+◌, ◌<◌, ◌≤◌, true, List, length, get_or, map, refl, arith, All, Some, None, Option, filter}
 use Rattle.std.proofs.lemmas.Bool.{and_parts}
 use Rattle.std.proofs.lemmas.List.Elements.{All-cons, All-map, All-filter, All-weaker, filter_passes}
-use Rattle.std.proofs.lemmas.List.Sums.{list_all-from_AllPass}
 use Rattle.lists.specs.Distinct.{distinct}
 use Rattle.deb_version.specs.Versions.{is_version, parts}
-use Rattle.universe_model.specs.Limits.{AreWithin, are_groups_few, has_few_groups, most_groups, most_file_bytes}
-use Rattle.universe_model.specs.Reading.{ReadStanza, Stanzas, Texts, all_of, stanzas_of}
+use Rattle.universe_model.specs.Reading.{ReadStanza, Stanzas, all_of}
 use Rattle.universe_model.specs.Versions.{Release, Version, names, versions, release_of, gives_version, is_named, is_same_version, releases_of, version_of, package_versions}
 use Rattle.laws_universe.proofs.Blocks.{All-blocks}
 use Rattle.lists.proofs.Distinct.{All-distinct}
 use Rattle.laws_universe.proofs.Groups.{groups_of-few}
-use Rattle.laws_universe.proofs.Stanzas.{IsReadWell, stanzas_of-well}
+use Rattle.laws_universe.proofs.Stanzas.{IsReadWell}
 
 -- What holds of a release that was read from a text of n bytes.
 pub record IsReleaseWell (n : ℕ) (release : Release) : Type 0 where
@@ -56,18 +53,3 @@ versions-well n stanzas well =
     let releases : List Release = releases_of (all_of stanzas) name in
     All-cons P (version_of (0 + k) name None) (map make releases) (record { owner = inside; release = tt })
     (All-map P make releases (All-weaker (IsReleaseWell n) (λ release. P (make release)) (λ release h. record { owner = inside; release = h }) releases (releases-well n (all_of stanzas) name well))))
-
--- ---- groups
-
-version-few : (n : ℕ) (release : Option Release) → n < most_groups → IsOptionWell n release → has_few_groups release ≡ true
-version-few n None l h = refl
-version-few n (Some release) l h = le-leb (length release.recommends) most_groups (omega (arith, h.few))
-
-pub groups-few : (texts : Texts) → AreWithin texts → IsTrue (list_all are_groups_few (versions (stanzas_of texts)))
-groups-few texts within =
-    let stanzas : Stanzas = stanzas_of texts in
-    let count : ℕ = length (names stanzas) in
-    let below : most_file_bytes < most_groups = omega arith in
-    list_all-from_AllPass are_groups_few (versions stanzas)
-    (All-weaker (IsVersionWell count most_file_bytes) (λ v. are_groups_few v ≡ true) (λ v well. version-few most_file_bytes v.release below well.release) (versions stanzas)
-    (versions-well most_file_bytes stanzas (stanzas_of-well texts most_file_bytes within.status within.packages)))

@@ -5,13 +5,12 @@
 ghost use Rattle.problem.specs.Places.{IsOneOfEach};
 ghost use Rattle.resolver_model.specs.Problems.{Problem, is_choice};
 ghost use Rattle.laws_universe.specs.Standing.{StandApart, StaysBefore};
-ghost use Rattle.std.specs.List.{AllPairs, list_all};
+ghost use Rattle.std.specs.List.{AllPairs};
 ghost use Rattle.std.specs.Prelude.{IsTrue, List, Ok, ℕ, ◌≡◌};
-ghost use Rattle.universe_model.specs.Limits.{AreWithin, are_groups_few};
-ghost use Rattle.universe_model.specs.Reading.{Stanzas, Texts, stanzas_of};
+ghost use Rattle.universe_model.specs.Limits.{AreWithin};
+ghost use Rattle.universe_model.specs.Reading.{Stanzas, Texts};
 ghost use Rattle.universe_model.specs.Tokens.{choice_of, token};
 ghost use Rattle.universe_model.specs.Universes.{IsProblemOf, Universe, problem_of, universe, universe_of};
-ghost use Rattle.universe_model.specs.Versions.{versions};
 
 /// A law: the candidates of a universe are one version of each package, in order.
 pub fn candidates_are_versions()
@@ -32,12 +31,6 @@ pub fn versions_stand_apart()
 /// places of their groups, and those of Conflicts and Breaks last (Debian Policy 7.2 to 7.4).
 pub fn dependencies_stand_in_order()
     ensures { (stanzas : Stanzas) (native : List ℕ) → AllPairs StaysBefore (universe_of native stanzas).requirements }
-{}
-
-/// A law: where two texts are no longer than a file may be, no version has more than 999,999,999 groups in its Recommends.
-/// So a token names the place of each by up to 9 digits.
-pub fn groups_are_few()
-    ensures { (texts : Texts) → AreWithin texts → IsTrue (list_all are_groups_few (versions (stanzas_of texts))) }
 {}
 
 /// Laws of tokens. Where two texts are no longer than a file may be, the token of each choice of a problem beside their

@@ -18,9 +18,6 @@ use std::{fs, io};
 use tables::{write_counts, write_tables};
 use universe::{BuildEnd, Universe};
 
-// The most bytes that a universe reads of one file.
-const MOST_BYTES: usize = 268_435_456;
-
 fn write_end(rt: &impl Print, end: BuildEnd) -> io::Result<()> {
     match end {
         BuildEnd::BadInput { file, line, kind } => println!(rt; "{file:?}, line {line}: {kind:?}"),
@@ -52,9 +49,6 @@ fn run_case<R: Files + AllocGlobal + Print>(
     println!(rt; "== {name}")?;
     let status = read_text(rt, name, ".status")?;
     let packages = read_packages(rt, name, count)?;
-    if status.len() > MOST_BYTES || packages.len() > MOST_BYTES {
-        return println!(rt; "a file is too long");
-    }
     match Universe::build(rt.alloc(), &status, &packages, b"amd64") {
         Ok(universe) => write_universe(rt, name, &universe, count.is_none()),
         Err(end) => write_end(rt, end),

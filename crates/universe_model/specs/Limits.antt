@@ -1,5 +1,5 @@
 -- The first limit that a universe exceeds, and the end of a build of two texts.
-use Rattle.std.specs.Prelude.{◌≤◌, ℕ, Bool, true, length, nat_le, Option, Some, None, option_map}
+use Rattle.std.specs.Prelude.{◌≤◌, ℕ, length, Option, None, option_map}
 use Rattle.std.specs.Option.{option_or}
 use Rattle.resolver_model.specs.Problems.{Problem, package_count, version_count, dependency_count}
 use Rattle.problem.specs.declared.limits.Which.TheVariants.{Packages, Versions, Dependencies, Targets}
@@ -8,7 +8,6 @@ use Rattle.problem.specs.Limits.{most_packages, most_versions, most_dependencies
 use Rattle.universe_model.specs.Faults.{build_end}
 use Rattle.universe_model.specs.Reading.{Texts, first_fault}
 use Rattle.universe_model.specs.Universes.{universe, problem_of}
-use Rattle.universe_model.specs.Versions.{Release, Version}
 use Rattle.universe_model.specs.declared.BuildEnd.{BuildEnd}
 
 -- packages are counted first, then versions, dependencies, and targets over all dependencies
@@ -36,11 +35,3 @@ pub record AreWithin (texts : Texts) : Type 0 where
 -- A token names the place of a group of Recommends by up to 9 digits.
 abbrev pub most_groups : ℕ
 most_groups = 999999999
-
-abbrev pub has_few_groups : Option Release → Bool
-has_few_groups None = true
-has_few_groups (Some release) = nat_le (length release.recommends) most_groups
-
--- whether each group of a version's Recommends has such a place; they all have where the files are within their limit
-abbrev pub are_groups_few : Version → Bool
-are_groups_few v = has_few_groups v.release

@@ -1,5 +1,5 @@
 use laws_universe::{
-    candidates_are_versions, dependencies_stand_in_order, groups_are_few, installed_are_versions,
+    candidates_are_versions, dependencies_stand_in_order, installed_are_versions,
     tokens_name_choices, versions_stand_apart,
 };
 use std::test::Fail;
@@ -10,7 +10,6 @@ fn laws_are_called(rt: HostRuntime) -> Result<(), Fail> {
     installed_are_versions();
     versions_stand_apart();
     dependencies_stand_in_order();
-    groups_are_few();
     tokens_name_choices();
     assert!(rt; true);
     Ok(())
