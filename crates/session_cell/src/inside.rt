@@ -37,7 +37,7 @@ fn is_still_out(session: &Session, job: &Job)
     let _ = session.history();
 }
 
-// Waits for the turn, and takes the session with it.
+// Waits for the turn, and takes the session with it. A turn is short: it spins at first, then lets other threads run, and parks last.
 pub(crate) fn enter<H: Wait>(rt: &H, turn: &TurnTable, seat: &mut TurnSeat)
     requires table { (seat.old.table_id ≡ turn.now.shared.table_id) × (turn.now.shared.table_id.words ≡ 1) × (turn.now.shared.table_id.slots ≡ 1) }
     requires waits { seat.old.me ≡ (waiting seat.old.me.0.own, []) }
@@ -53,11 +53,11 @@ pub(crate) fn enter<H: Wait>(rt: &H, turn: &TurnTable, seat: &mut TurnSeat)
             if found == word {
                 return;
             }
-        }
-        backoff.spin();
-        let held = shared.peek(0);
-        if held % 2 == 1 {
-            shared.park(rt, 0, (held % (1 << 32)) as u32);
+        } else if backoff.is_completed() {
+            shared.park(rt, 0, (word % (1 << 32)) as u32);
+            backoff.reset();
+        } else {
+            backoff.snooze();
         }
     }
     unreachable!()
