@@ -7,7 +7,7 @@ use dep_fields::{Group, Groups};
 use meeting_index::MeetingIndex;
 use stanza::Stanza;
 use std::test::Fail;
-use universe_parts::{ListedVersion, ReadStanza};
+use universe_parts::{ListedVersion, Names, ReadStanza};
 
 // The stanza of a paragraph that provides `v` in 17 versions.
 const CROWDED: &[u8] = b"Package: p
@@ -52,7 +52,8 @@ fn a_group_with_a_target(rt: HostRuntime) -> Result<(), Fail> {
         name: b"p",
         read: Some(&read),
     }];
-    let index = MeetingIndex::new(rt.alloc(), b"amd64", &versions)?;
+    let names = Names::new(rt.alloc())?;
+    let index = MeetingIndex::new(rt.alloc(), b"amd64", &versions, &names)?;
     let group = group_of(b"w | v (>> 16)")?;
     assert!(rt; index.has_target(&group));
     Ok(())
@@ -66,7 +67,8 @@ fn the_packages_of_a_crowded_name(rt: HostRuntime) -> Result<(), Fail> {
         name: b"p",
         read: Some(&read),
     }];
-    let index = MeetingIndex::new(rt.alloc(), b"amd64", &versions)?;
+    let names = Names::new(rt.alloc())?;
+    let index = MeetingIndex::new(rt.alloc(), b"amd64", &versions, &names)?;
     let mut packages = Vec::new(rt.alloc());
     for item in group_of(b"v (>= 5)")?.items() {
         index.packages(&item, &mut packages)?;
@@ -83,7 +85,8 @@ fn one_key_within_alike_bounds(rt: HostRuntime) -> Result<(), Fail> {
         name: b"p",
         read: Some(&read),
     }];
-    let index = MeetingIndex::new(rt.alloc(), b"amd64", &versions)?;
+    let names = Names::new(rt.alloc())?;
+    let index = MeetingIndex::new(rt.alloc(), b"amd64", &versions, &names)?;
     let mut keys = Vec::new(rt.alloc());
     for item in group_of(b"v (>= 5) | v (>> 4)")?.items() {
         keys.push(index.answer_key(&item))?;
