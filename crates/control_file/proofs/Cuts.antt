@@ -75,6 +75,36 @@ passed_more n old m rest lines first after p f =
       bound = omega (arith, p.bound, f.some);
     }
 
+-- a first line was passed, and then the lines behind it
+pub passed_first : (m : ℕ) (rest first after : List ℕ) (k : ℕ) (left : List ℕ) (more : List (List ℕ)) → IsFirstLine rest first after → Passed (m + 1) after k left more → Passed m rest k left (first ∷ more)
+passed_first m rest first after k left more f q = record {
+  front = first ++ q.front;
+  text = f.text ∙ ap (λ r. first ++ r) q.text ∙ sym (append_assoc first q.front left);
+  front_lines = joined q.front q.text ∙ ap (λ ls. first ∷ ls) q.front_lines;
+  text_lines = f.lines ∙ ap (λ ls. first ∷ ls) q.text_lines;
+  number = omega (arith, q.number);
+  ends_line = λ h later. ap cut (append_assoc first q.front later) ∙ f.ends_line (omega (arith, h, ap length q.text, length-append q.front left)) (q.front ++ later) ∙ ap (λ ls. first ∷ ls) (q.ends_line h later);
+  bound = q.bound;
+}
+  where
+    joined : (front : List ℕ) → after ≡ front ++ left → cut (first ++ front) ≡ first ∷ cut front
+    joined [] e = ap cut (append-nil first) ∙ f.alone
+    joined (b ∷ bs) e = f.ends_line (omega (arith, ap length e)) (b ∷ bs)
+
+-- lines were passed, and then others
+pub passed_both : (n : ℕ) (old : List ℕ) (m : ℕ) (rest : List ℕ) (lines : List (List ℕ)) (k : ℕ) (left : List ℕ) (more : List (List ℕ)) → 0 < length rest → Passed n old m rest lines → Passed m rest k left more → Passed n old k left (lines ++ more)
+passed_both n old m rest lines k left more some p q =
+    let joins = p.ends_line some in
+    record {
+      front = p.front ++ q.front;
+      text = p.text ∙ ap (λ r. p.front ++ r) q.text ∙ sym (append_assoc p.front q.front left);
+      front_lines = joins q.front ∙ ap (λ r. lines ++ r) q.front_lines;
+      text_lines = p.text_lines ∙ ap (λ r. lines ++ r) q.text_lines ∙ sym (append_assoc lines more (cut left));
+      number = omega (arith, p.number, q.number, length-append lines more);
+      ends_line = λ h after. ap cut (append_assoc p.front q.front after) ∙ joins (q.front ++ after) ∙ ap (λ r. lines ++ r) (q.ends_line h after) ∙ sym (append_assoc lines more (cut after));
+      bound = q.bound;
+    }
+
 -- lines in numbers, as far as they were passed
 pub passed_lines : (n : ℕ) (old : List ℕ) (m : ℕ) (rest : List ℕ) (lines : List (List ℕ)) → Passed n old m rest lines → lines_from n old ≡ numbered n lines ++ lines_from m rest
 passed_lines n old m rest lines p =

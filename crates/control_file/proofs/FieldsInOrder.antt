@@ -1,14 +1,16 @@
 -- Fields of a paragraph, one after the other.
-use Rattle.std.proofs.Common.{◌≡◌, ℕ, zero, suc, ◌+◌, ◌-◌, ◌<◌, ◌≤◌, true, false, cond, List, [], ◌∷◌, ◌++◌, length, take, drop, refl, ap, sym, ◌∙◌, arith, append_assoc, length-append, Some, eqb}
+use Rattle.std.proofs.Common.{◌≡◌, ℕ, zero, suc, ◌+◌, ◌-◌, ◌<◌, ◌≤◌, Bool, true, false, cond, List, [], ◌∷◌, ◌++◌, length, take, drop, refl, ap, sym, ◌∙◌, arith, append_assoc, length-append, Some, eqb}
 use Rattle.std.specs.Prelude.{slice_get}
 use Rattle.std.specs.List.{list_all, before_first, take_while, onto_first}
 use Rattle.std.proofs.lemmas.Bool.{and_parts}
-use Rattle.std.proofs.lemmas.List.{take_at, length-drop, drop-drop}
+use Rattle.std.proofs.lemmas.List.{append-nil, take_at, length-drop, drop-drop}
 use Rattle.std.specs.Str.{str_eq_ignore_ascii_case}
 use Rattle.std.proofs.lemmas.List.Sums.{take_while-cons}
 use Rattle.control_file.specs.Text.{Line, FieldText, cut, numbered, lines_from, bytes_of, is_space, is_colon, begins_with_space, continues, without_line_end, trimmed, field_of, fields_of, field_named}
+use Rattle.control_file.specs.Raw.{raw_text}
+use Rattle.control_file.specs.declared.raw.RawField.{RawField}
 use Rattle.control_file.specs.Passes.{IsFirstLine, SkipsContinued, TakesField}
-use Rattle.control_file.proofs.Cuts.{passed_lines, bytes_of-lines}
+use Rattle.control_file.proofs.Cuts.{numbered-append, passed_lines, bytes_of-lines}
 
 -- a text begins as its first line does
 none_continue : (m : ℕ) (rest : List ℕ) → begins_with_space rest ≡ false → take_while continues (lines_from m rest) ≡ []
@@ -47,6 +49,60 @@ skips_fields n old m rest s = ap fields_of (passed_lines n old m rest s.lines s.
 begins_same : (first after : List ℕ) → 0 < length first → begins_with_space (first ++ after) ≡ begins_with_space first
 begins_same [] after some = absurd (omega arith)
 begins_same (b ∷ bs) after some = refl
+
+pub begins_first : (old first after : List ℕ) → IsFirstLine old first after → begins_with_space old ≡ begins_with_space first
+begins_first old first after f = ap begins_with_space f.text ∙ begins_same first after f.some
+
+-- ---- fields of numbered lines
+
+take_while_before : (xs : List Line) (l : Line) (ls : List Line) → continues l ≡ false → take_while continues (xs ++ l ∷ ls) ≡ take_while continues xs
+take_while_before [] l ls other = take_while-cons continues l ls ∙ ap (λ b. cond b (l ∷ take_while continues ls) []) other
+take_while_before (x ∷ xs) l ls other =
+    take_while-cons continues x (xs ++ l ∷ ls)
+    ∙ ap (λ (more : List Line). cond (continues x) (x ∷ more) []) (take_while_before xs l ls other)
+    ∙ sym (take_while-cons continues x xs)
+
+-- the fields of lines, and then those that begin with a line that continues none
+fields_of_both : (xs : List Line) (l : Line) (ls : List Line) → continues l ≡ false → fields_of (xs ++ l ∷ ls) ≡ fields_of xs ++ fields_of (l ∷ ls)
+fields_of_both [] l ls other = refl
+fields_of_both (x ∷ xs) l ls other =
+    by (continues x) (field_of x (take_while continues (xs ++ l ∷ ls))) (field_of x (take_while continues xs)) (ap (field_of x) (take_while_before xs l ls other)) (fields_of_both xs l ls other)
+  where
+    by : (b : Bool) (f g : FieldText) → f ≡ g → fields_of (xs ++ l ∷ ls) ≡ fields_of xs ++ fields_of (l ∷ ls) → cond b (fields_of (xs ++ l ∷ ls)) (f ∷ fields_of (xs ++ l ∷ ls)) ≡ cond b (fields_of xs) (g ∷ fields_of xs) ++ fields_of (l ∷ ls)
+    by true f g same later = later
+    by false f g same later = ap (λ h. h ∷ fields_of (xs ++ l ∷ ls)) same ∙ ap (λ fs. g ∷ fs) later
+
+-- a line and those that continue it are one field
+one_field : (m : ℕ) (first : List ℕ) (more : List (List ℕ)) → begins_with_space first ≡ false → list_all begins_with_space more ≡ true
+    → fields_of (numbered m (first ∷ more)) ≡ field_of (record { number = m; bytes = first }) (numbered (m + 1) more) ∷ []
+one_field m first more other all =
+    let here : Line = record { number = m; bytes = first } in
+    let behind = numbered (m + 1) more in
+    let end : behind ++ [] ≡ behind = append-nil behind in
+    let taken : take_while continues behind ≡ behind = ap (take_while continues) (sym end) ∙ take_continued (m + 1) more [] all refl in
+    let none : fields_of behind ≡ [] = ap fields_of (sym end) ∙ fields_of_continued (m + 1) more [] all in
+    ap (λ b. cond b (fields_of behind) (field_of here (take_while continues behind) ∷ fields_of behind)) other
+    ∙ ap (λ ls. field_of here ls ∷ fields_of behind) taken
+    ∙ ap (λ fs. field_of here behind ∷ fs) none
+
+-- a line that begins a field, and lines that continue it, add that field
+pub fields_more : (n : ℕ) (lines : List (List ℕ)) (m : ℕ) (first : List ℕ) (more : List (List ℕ)) (raw : RawField)
+    → m ≡ n + length lines → begins_with_space first ≡ false → list_all begins_with_space more ≡ true
+    → raw.name.now ≡ before_first is_colon (without_line_end first) → raw.text.now ≡ bytes_of (numbered m (first ∷ more)) → raw.line ≡ m
+    → fields_of (numbered n lines) ++ raw_text raw ∷ [] ≡ fields_of (numbered n (lines ++ first ∷ more))
+fields_more n lines m first more raw number other all is body at =
+    let here : Line = record { number = m; bytes = first } in
+    let behind = numbered (m + 1) more in
+    let name = raw.name.now in
+    let same : raw_text raw ≡ field_of here behind =
+    ap (λ (k : ℕ). record { name = name; value = trimmed (drop (length name + 1) (without_line_end raw.text.now)); line = k }) at
+    ∙ ap (λ (b : List ℕ). record { name = name; value = trimmed (drop (length name + 1) (without_line_end b)); line = m }) body
+    ∙ ap (λ (nm : List ℕ). record { name = nm; value = trimmed (drop (length nm + 1) (without_line_end (first ++ bytes_of behind))); line = m }) is in
+    ap (λ (f : FieldText). fields_of (numbered n lines) ++ f ∷ []) same
+    ∙ ap (λ fs. fields_of (numbered n lines) ++ fs) (sym (one_field m first more other all))
+    ∙ sym (fields_of_both (numbered n lines) here behind other)
+    ∙ ap (λ k. fields_of (numbered n lines ++ numbered k (first ∷ more))) number
+    ∙ sym (ap fields_of (numbered-append n lines (first ∷ more)))
 
 pub takes_field : (n : ℕ) (old first after : List ℕ) (m : ℕ) (rest name : List ℕ) → IsFirstLine old first after → SkipsContinued (n + 1) after m rest → begins_with_space old ≡ false → name ≡ before_first is_colon (without_line_end first) → TakesField n old (record { name = name; value = trimmed (drop (length name + 1) (without_line_end (take (length old - length rest) old))); line = n }) m rest
 takes_field n old first after m rest name f s begins is =

@@ -9,3 +9,4 @@ pub mod FieldsInOrder
 pub mod Parts
 pub mod FirstFaults
 pub mod LinesInOrder
+pub mod OneFieldMore

@@ -5,3 +5,4 @@ pub mod Passes
 pub mod Laws
 pub mod Tags
 pub mod Raw
+pub mod Kept

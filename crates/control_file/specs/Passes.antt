@@ -4,7 +4,7 @@ use Rattle.std.specs.List.{list_all, list_any, before_first}
 use Rattle.control_file.specs.declared.CtlFault.{CtlFault}
 use Rattle.control_file.specs.declared.CtlKind.{CtlKind}
 use Rattle.control_file.specs.declared.CtlKind.TheVariants.{NoColon, BadName, Twice, ManyFields}
-use Rattle.control_file.specs.Text.{FieldText, Reading, Rest, is_blank, is_colon, is_name_byte, is_name, is_among, begins_with_space, without_line_end, cut, numbered, lines_from, names_of, first_fault, fields_of}
+use Rattle.control_file.specs.Text.{FieldText, Reading, Rest, is_blank, is_colon, is_name_byte, is_name, is_among, begins_with_space, without_line_end, cut, numbered, lines_from, names_of, fault_of_line, first_fault, fields_of}
 use Rattle.control_file.specs.Answers.{is_paragraph_next}
 
 abbrev pub at_line : List ℕ → ℕ → Rest
@@ -72,6 +72,21 @@ pub record SkipsContinued (n : ℕ) (old : List ℕ) (m : ℕ) (rest : List ℕ)
   pub passed : Passed n old m rest lines
   pub continued : IsTrue (list_all begins_with_space lines)
   pub stops : begins_with_space rest ≡ false
+
+-- the lines at the front that continue a field of their paragraph were passed
+pub record SkipsIndented (n : ℕ) (old : List ℕ) (m : ℕ) (rest : List ℕ) : Type 0 where
+  pub lines : List (List ℕ)
+  pub passed : Passed n old m rest lines
+  pub full : IsTrue (list_all (λ l. not (is_blank l)) lines)
+  pub continued : IsTrue (list_all begins_with_space lines)
+  pub stops : IsTrue (is_paragraph_next (cut rest)) → begins_with_space rest ≡ false
+
+-- a field of a name begins on a line, behind fields of other names
+pub record BeginsField (old : List (List ℕ)) (line name : List ℕ) (new : List (List ℕ)) : Type 0 where
+  pub faultless : fault_of_line old line ≡ None
+  pub begins : begins_with_space line ≡ false
+  pub named : name ≡ before_first is_colon (without_line_end line)
+  pub names : new ≡ old ++ name ∷ []
 
 -- the first field was taken
 pub record TakesField (n : ℕ) (old : List ℕ) (field : FieldText) (m : ℕ) (rest : List ℕ) : Type 0 where

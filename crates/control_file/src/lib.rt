@@ -6,19 +6,20 @@ ghost use Rattle.std.specs.List.{list_any, list_all, prefix_len, before_first};
 ghost use Rattle.ascii.specs.Texts.{begins};
 ghost use Rattle.std.specs.Option.{option_map};
 ghost use Rattle.std.specs.Str.{str_eq_ignore_ascii_case};
-ghost use Rattle.control_file.specs.Text.{Line, paragraphs_of, cut, without_last, without_line_end, is_space, is_colon, begins_with_space, is_blank, is_name_byte, is_among, trimmed_front, trimmed_end, fault_of_line, whole, reading, reading_of, field_named};
+ghost use Rattle.control_file.specs.Text.{Line, paragraphs_of, cut, without_last, without_line_end, is_space, is_colon, begins_with_space, is_blank, is_name_byte, is_among, trimmed_front, trimmed_end, fault_of_line, fields_of, lines_from, whole, reading, reading_of, field_named};
 ghost use Rattle.control_file.specs.Answers.{answer_of, behind_first, Reads, Leaves, is_paragraph_next};
 ghost use Rattle.control_file.specs.Fields.{field_text};
 ghost use Rattle.control_file.specs.Laws.{ParagraphsStandIn, FirstFaultIsFirst, AreRunsOf};
 ghost use Rattle.control_file.specs.Tags.{tag_of, slot_by, slot_of};
 ghost use Rattle.std.specs.Char.{to_ascii_lowercase};
-ghost use Rattle.control_file.specs.Passes.{IsFirstLine, own_names, may_begin, fault_before_colon, fault_of_name, SkipsBlank, SkipsContinued, Scans, TakesField, at_line, faulty};
+ghost use Rattle.control_file.specs.Passes.{BeginsField, IsFirstLine, may_begin, fault_before_colon, fault_of_name, SkipsBlank, SkipsContinued, SkipsIndented, Scans, TakesField, at_line, faulty};
+ghost use Rattle.control_file.specs.Kept.{Keeps};
 
 mod raw;
 
 use ascii::is_space;
 use memchr::memchr;
-use raw::first_raw;
+use raw::{FrontFields, first_raw};
 pub use raw::{RawField, RawFields};
 use std::marker::Model;
 
@@ -104,7 +105,8 @@ fn begins_with_space(text: &[u8]) -> bool
 fn is_name_byte(byte: u8) -> bool
     ensures { result ≡ is_name_byte byte }
 {
-    byte >= 33 && byte <= 126 && byte != b':'
+    // letters are told by one test
+    (byte > b':' && byte <= 126) || (byte >= 33 && byte < b':')
 }
 
 // How many bytes at the front of a line may stand in a name.
@@ -341,20 +343,18 @@ fn field_name(line: &[u8]) -> Result<&[u8], CtlKind>
     }
 }
 
-// Takes a line that is not blank into its paragraph, or answers its fault.
-fn take_line<'a>(line: &'a [u8], names: &mut Names<'a>) -> Result<(), CtlKind>
-    ensures { MatchResult result (λ _. (fault_of_line names.old line.now ≡ None) × (names.new ≡ names.old ++ own_names line.now)) (λ kind. fault_of_line names.old line.now ≡ Some kind) }
+// Takes the name of the field that begins on a line that is not blank, or answers the line's fault. A line that begins with
+// a space or a tab continues a field of its paragraph, unless it is the first.
+fn take_name<'a>(line: &'a [u8], names: &mut Names<'a>) -> Result<&'a [u8], CtlKind>
+    requires { begins_with_space line.now ≡ true → names.old ≡ [] }
+    ensures { MatchResult result (λ name. BeginsField names.old line.now name.now names.new) (λ kind. fault_of_line names.old line.now ≡ Some kind) }
 {
     if begins_with_space(line) {
-        if names.len() == 0 {
-            return Err(CtlKind::NoFieldYet);
-        }
-        return Ok(());
+        return Err(CtlKind::NoFieldYet);
     }
-    match field_name(without_line_end(line)) {
-        Ok(name) => names.add(name),
-        Err(kind) => Err(kind),
-    }
+    let name = field_name(without_line_end(line))?;
+    names.add(name)?;
+    Ok(name)
 }
 
 // What is left of a text behind some lines, and the number of its first line.
@@ -385,12 +385,39 @@ fn skip_blank<'a>(text: &'a [u8], line: u64) -> Left<'a>
     }
 }
 
+// Skips the lines at the front that continue a field of their paragraph.
+fn skip_indented<'a>(text: &'a [u8], line: u64) -> Left<'a>
+    requires { line + length text.now < 2 ^ 64 }
+    ensures { SkipsIndented line text.now result.line result.text.now }
+{
+    let mut rest = text;
+    let mut number = line;
+    while begins_with_space(rest) {
+        let (first, after) = cut_line(rest);
+        if is_blank(first) {
+            break;
+        }
+        rest = after;
+        number += 1;
+    }
+    Left {
+        text: rest,
+        line: number,
+    }
+}
+
 // Goes over the lines of the paragraph at the front, and answers what stands behind it, or its first fault.
-// `names` gets the names of its fields.
-fn scan<'a>(text: &'a [u8], line: u64, names: &mut Names<'a>) -> Result<Left<'a>, CtlFault>
+// `names` gets the names of its fields, and `front` the first of them.
+fn scan<'a>(
+    text: &'a [u8],
+    line: u64,
+    names: &mut Names<'a>,
+    front: &mut FrontFields<'a>,
+) -> Result<Left<'a>, CtlFault>
     requires bound { line + length text.now < 2 ^ 64 }
     requires next { IsTrue (is_paragraph_next (cut text.now)) }
-    ensures { MatchResult result (λ left. Scans line text.now left.line left.text.now names.new) (λ fault. reading_of (at_line text.now line) ≡ faulty fault) }
+    ensures lines { MatchResult result (λ left. Scans line text.now left.line left.text.now names.new) (λ fault. reading_of (at_line text.now line) ≡ faulty fault) }
+    ensures front { IfOk result (λ left. Keeps front.new (fields_of (lines_from line (take (length text.now - length left.text.now) text.now)))) }
 {
     names.clear();
     let mut rest = text;
@@ -400,12 +427,18 @@ fn scan<'a>(text: &'a [u8], line: u64, names: &mut Names<'a>) -> Result<Left<'a>
         if is_blank(first) {
             break;
         }
-        match take_line(first, names) {
-            Ok(()) => {}
+        let place = names.len();
+        let name = match take_name(first, names) {
+            Ok(name) => name,
             Err(kind) => return Err(CtlFault { line: number, kind }),
-        }
-        rest = after;
-        number += 1;
+        };
+        let left = skip_indented(after, number + 1);
+        front.keep(
+            place,
+            RawField::new(name, number, &rest[..rest.len() - left.text.len()]),
+        );
+        rest = left.text;
+        number = left.line;
     }
     Ok(Left {
         text: rest,
@@ -463,23 +496,26 @@ fn behind(text: &[u8], place: usize) -> &[u8]
 }
 
 /// A paragraph without fault, lent from the text (Debian Policy 5.1). A contract sees it as its line, its fields and
-/// its text. It keeps its part of the text, and goes over its lines again for each field that is asked for.
+/// its text. It keeps its part of the text, and its fields as they stand in it where they are at most 24. It goes over
+/// its lines again for a field that is asked for by its place or its name.
 #[derive(Drop)]
 pub struct Paragraph<'a> {
     text: &'a [u8],
     line: u64,
     len: usize,
+    front: FrontFields<'a>,
 }
 
 impl<'a> Model for Paragraph<'a> {
     ghost use Rattle.std.specs.Prelude.{◌≡◌, ◌<◌, ◌≤◌, ◌+◌, ◌^◌, length};
     ghost use Rattle.control_file.specs.Text.{ParagraphText, fields_of, lines_from};
+    ghost use Rattle.control_file.specs.Kept.{Keeps};
 
     ghost Value = { ParagraphText };
 
     ghost view = { λ p. record { line = p.line; fields = fields_of (lines_from p.line p.text.now); text = p.text.now } };
 
-    ghost invariant = { λ p. (p.len ≡ length (fields_of (lines_from p.line p.text.now))) × (0 < p.len) × (p.len ≤ 1024) × (p.line + length p.text.now < 2 ^ 64) };
+    ghost invariant = { λ p. (p.len ≡ length (fields_of (lines_from p.line p.text.now))) × (0 < p.len) × (p.len ≤ 1024) × (p.line + length p.text.now < 2 ^ 64) × Keeps p.front (fields_of (lines_from p.line p.text.now)) };
 }
 
 impl<'a> Paragraph<'a> {
@@ -518,12 +554,16 @@ impl<'a> Paragraph<'a> {
         }
     }
 
-    /// Its fields in order, as `fields` gives them, but each with its value still to be cut.
-    pub fn raw_fields(&self) -> RawFields<'a>
+    /// Its fields in order, as `fields` gives them, but each with its value still to be cut. Where they are at most 24,
+    /// it goes over no line again for them.
+    pub fn raw_fields(&self) -> RawFields<'_, 'a>
         ensures { result ≡ self.now.fields }
     {
+        if let Some(kept) = self.front.first(self.len) {
+            return RawFields::of_kept(kept);
+        }
         let left = skip_continued(self.text, self.line);
-        RawFields::new(left.text, left.line)
+        RawFields::of_lines(left.text, left.line)
     }
 
     /// The field at a place, counted from 0. It takes the time of a pass over the lines up to that field.
@@ -622,6 +662,7 @@ pub struct Paragraphs<'a> {
     rest: &'a [u8],
     line: u64,
     names: Names<'a>,
+    front: FrontFields<'a>,
 }
 
 impl<'a> Model for Paragraphs<'a> {
@@ -644,6 +685,7 @@ impl<'a> Paragraphs<'a> {
             rest: text,
             line: 1,
             names: Names::new(),
+            front: FrontFields::new(),
         }
     }
 
@@ -670,7 +712,7 @@ impl<'a> Paragraphs<'a> {
         if start.text.is_empty() {
             return Ok(None);
         }
-        match scan(start.text, start.line, &mut self.names) {
+        match scan(start.text, start.line, &mut self.names, &mut self.front) {
             Ok(left) => {
                 self.rest = left.text;
                 self.line = left.line;
@@ -678,6 +720,7 @@ impl<'a> Paragraphs<'a> {
                     text: &start.text[..start.text.len() - left.text.len()],
                     line: start.line,
                     len: self.names.len(),
+                    front: self.front,
                 }))
             }
             Err(fault) => Err(fault),

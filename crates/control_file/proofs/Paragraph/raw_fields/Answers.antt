@@ -7,4 +7,4 @@ pub returns : goal.returns
 returns c =
     let left = c.skip_continued-left.result in
     let inside = c.self.inside in
-    c.new.ensures ∙ sym (ap (λ (p : ParagraphText). p.fields) (sym c.self.view_is) ∙ skips_fields inside.line inside.text.now left.line left.text.now c.skip_continued-left.ensures)
+    c.of_lines.ensures ∙ sym (ap (λ (p : ParagraphText). p.fields) (sym c.self.view_is) ∙ skips_fields inside.line inside.text.now left.line left.text.now c.skip_continued-left.ensures)
