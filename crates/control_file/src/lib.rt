@@ -105,8 +105,7 @@ fn begins_with_space(text: &[u8]) -> bool
 fn is_name_byte(byte: u8) -> bool
     ensures { result ≡ is_name_byte byte }
 {
-    // letters are told by one test
-    (byte > b':' && byte <= 126) || (byte >= 33 && byte < b':')
+    byte >= 33 && byte <= 126 && byte != b':'
 }
 
 // How many bytes at the front of a line may stand in a name.

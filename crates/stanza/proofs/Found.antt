@@ -1,12 +1,11 @@
 -- What a pass over the fields of a paragraph finds.
-use Rattle.std.proofs.Common.{◌≡◌, ◌≢◌, ◌<◌, ℕ, Bool, true, false, List, [], ◌∷◌, length, get_or, set, nat_eq, eqb, refl, ap, sym, subst, ◌∙◌, cond, Some, None, arith}
+use Rattle.std.proofs.Common.{◌≡◌, ◌≢◌, ◌<◌, ◌&&◌, ℕ, zero, suc, Bool, true, false, List, [], ◌∷◌, length, get_or, set, nat_eq, eqb, refl, ap, sym, subst, ◌∙◌, cond, Some, None, arith}
 use Rattle.std.specs.Prelude.{Option}
 use Rattle.std.specs.Option.{option_or, is_some}
 use Rattle.std.specs.Char.{to_ascii_lowercase}
-use Rattle.std.specs.List.{filter, list_any, position_or_len}
+use Rattle.std.specs.List.{list_any, position_or_len}
 use Rattle.std.specs.Str.{bytes_eq, str_eq_ignore_ascii_case, str_to_ascii_lowercase}
-use Rattle.std.specs.Cmp.Lexicographic.{unequal}
-use Rattle.std.proofs.lemmas.Bool.{eqb-false, eqb-true}
+use Rattle.std.proofs.lemmas.Bool.{and_from, eqb-false, eqb-true, eq-eqb}
 use Rattle.std.proofs.lemmas.List.Folds.{list_any_at}
 use Rattle.std.proofs.lemmas.Map.Views.{any-filter_same}
 use Rattle.std.proofs.lemmas.Slice.Eq.{bytes_eq-Decides}
@@ -18,12 +17,8 @@ use Rattle.stanza.specs.declared.names.FieldName.{FieldName}
 use Rattle.stanza.specs.declared.names.FieldName.TheVariants.{Package, Status, Version, Architecture, Essential, PreDepends, Depends, Recommends, Conflicts, Breaks, Provides}
 use Rattle.stanza.specs.declared.slots.Slots.{Slots}
 use Rattle.stanza.specs.Fields.{field_in}
-use Rattle.stanza.specs.Names.{all_names, number, spelling, spells}
+use Rattle.stanza.specs.Names.{all_names, letter_of, number, spelling, spells, told_by}
 use Rattle.stanza.specs.Found.{found_in, found_text, slot_of, slot_text, slot_behind}
-
--- a name of another length is another name
-pub other_length : (name wanted : List ℕ) → length name ≢ length wanted → str_eq_ignore_ascii_case name wanted ≡ false
-other_length name wanted other = unequal nat_eq _ _ (λ same. other (sym (length-map name to_ascii_lowercase) ∙ same ∙ length-map wanted to_ascii_lowercase))
 
 -- ---- a text spells one name at most
 
@@ -63,15 +58,22 @@ one_name text a b first second =
     let is_b : lower text ≡ lower (spelling b) = (bytes_eq-Decides (lower text) (lower (spelling b))).0 second in
     sym (placed a) ∙ ap (λ t. position_or_len (λ (n : FieldName). bytes_eq (lower (spelling n)) t) all_names) (sym is_a ∙ is_b) ∙ placed b
 
--- a text that spells none of the names of its length spells none
-same_length : (text : List ℕ) (name : FieldName) → spells text name ≡ true → nat_eq (length (spelling name)) (length text) ≡ true
-same_length text name h = by (nat_eq (length (spelling name)) (length text)) refl
+-- texts that are the same in lower case share their fourth letter
+same_letter : (a b : List ℕ) → str_to_ascii_lowercase a ≡ str_to_ascii_lowercase b → letter_of a ≡ letter_of b
+same_letter a b e = sym (lower_at a 3) ∙ ap (λ l. get_or l 3 0) e ∙ lower_at b 3
   where
-    by : (b : Bool) → nat_eq (length (spelling name)) (length text) ≡ b → b ≡ true
-    by true e = refl
-    by false e =
-        let other = other_length text (spelling name) (λ same. eqb-false (length (spelling name)) (length text) e (sym same)) in
-        absurd (cc)
+    lower_at : (xs : List ℕ) (k : ℕ) → get_or (str_to_ascii_lowercase xs) k 0 ≡ to_ascii_lowercase (get_or xs k 0)
+    lower_at [] k = refl
+    lower_at (x ∷ xs) zero = refl
+    lower_at (x ∷ xs) (suc k) = lower_at xs k
+
+-- a text that spells a name has its length and its fourth letter
+is_told : (text : List ℕ) (name : FieldName) → spells text name ≡ true → (nat_eq (length (spelling name)) (length text) && nat_eq (letter_of (spelling name)) (letter_of text)) ≡ true
+is_told text name h =
+    let lower : List ℕ → List ℕ = str_to_ascii_lowercase in
+    let same : lower text ≡ lower (spelling name) = (bytes_eq-Decides (lower text) (lower (spelling name))).0 h in
+    let long : length (spelling name) ≡ length text = sym (length-map (spelling name) to_ascii_lowercase) ∙ sym (ap length same) ∙ length-map text to_ascii_lowercase in
+    and_from _ _ (eq-eqb (length (spelling name)) (length text) long) (eq-eqb (letter_of (spelling name)) (letter_of text) (sym (same_letter text (spelling name) same)))
 
 number-within : (name : FieldName) → number name < length all_names
 number-within Package = omega arith
@@ -86,16 +88,14 @@ number-within Conflicts = omega arith
 number-within Breaks = omega arith
 number-within Provides = omega arith
 
-abbrev pub of_length : ℕ → List FieldName
-of_length len = filter (λ name. nat_eq (length (spelling name)) len) all_names
-
-pub none_spelled : (text : List ℕ) → list_any (spells text) (of_length (length text)) ≡ false → (name : FieldName) → spells text name ≡ false
+-- a text that spells no name of its length and its fourth letter spells none
+pub none_spelled : (text : List ℕ) → list_any (spells text) (told_by (length text) (letter_of text)) ≡ false → (name : FieldName) → spells text name ≡ false
 none_spelled text none name = by (spells text name) refl
   where
     by : (b : Bool) → spells text name ≡ b → b ≡ false
     by true e =
-        let any : list_any (spells text) (of_length (length text)) ≡ true =
-        any-filter_same (spells text) (λ (n : FieldName). nat_eq (length (spelling n)) (length text)) true (same_length text) all_names
+        let any : list_any (spells text) (told_by (length text) (letter_of text)) ≡ true =
+        any-filter_same (spells text) (λ (n : FieldName). nat_eq (length (spelling n)) (length text) && nat_eq (letter_of (spelling n)) (letter_of text)) true (is_told text) all_names
         ∙ list_any_at (spells text) all_names (number name) Provides (number-within name) (ap (spells text) (name_of-number name) ∙ e) in
         absurd (cc)
     by false e = refl

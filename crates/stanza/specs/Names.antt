@@ -1,5 +1,6 @@
 -- The names of the fields that a stanza is read from.
-use Rattle.std.specs.Prelude.{ℕ, Bool, List, [], ◌∷◌, codes, slice_index}
+use Rattle.std.specs.Prelude.{ℕ, Bool, ◌&&◌, List, [], ◌∷◌, Option, Some, None, codes, length, nat_eq, slice_index}
+use Rattle.std.specs.List.{filter}
 use Rattle.std.specs.Char.{to_ascii_lowercase}
 use Rattle.std.specs.Str.{str_eq_ignore_ascii_case}
 use Rattle.stanza.specs.declared.names.FieldName.{FieldName}
@@ -23,12 +24,20 @@ spelling Provides = codes "Provides"
 abbrev pub spells : List ℕ → FieldName → Bool
 spells text field = str_eq_ignore_ascii_case text (spelling field)
 
--- the first byte of a name in lower case, and 0 where there is none
+-- the fourth byte of a name in lower case, and 0 where there is none
 abbrev pub letter_of : List ℕ → ℕ
-letter_of text = to_ascii_lowercase (slice_index text 0)
+letter_of text = to_ascii_lowercase (slice_index text 3)
 
 abbrev pub all_names : List FieldName
 all_names = Package ∷ Status ∷ Version ∷ Architecture ∷ Essential ∷ PreDepends ∷ Depends ∷ Recommends ∷ Conflicts ∷ Breaks ∷ Provides ∷ []
+
+-- those whose names have so many bytes and this fourth letter
+abbrev pub told_by : ℕ → ℕ → List FieldName
+told_by len letter = filter (λ field. nat_eq (length (spelling field)) len && nat_eq (letter_of (spelling field)) letter) all_names
+
+abbrev pub only : Option FieldName → List FieldName
+only None = []
+only (Some field) = field ∷ []
 
 -- its place among them
 abbrev pub number : FieldName → ℕ

@@ -1,9 +1,8 @@
 // The names of the fields that a stanza is read from.
 
-ghost use Rattle.std.specs.Prelude.{◌≡◌, ◌<◌, false, true, length, nat_eq, MatchOption};
-ghost use Rattle.std.specs.List.{filter};
+ghost use Rattle.std.specs.Prelude.{◌≡◌, ◌<◌, false, true, MatchOption};
 ghost use Rattle.stanza.specs.declared.names.FieldName.{FieldName};
-ghost use Rattle.stanza.specs.Names.{all_names, letter_of, number, spelling, spells};
+ghost use Rattle.stanza.specs.Names.{letter_of, number, only, spelling, spells, told_by};
 
 /// How many fields a stanza is read from.
 pub const FIELDS: usize = 11;
@@ -24,13 +23,13 @@ pub enum FieldName {
     Provides,
 }
 
-// The first byte of a name in lower case, and 0 where there is none.
-fn first_letter(name: &[u8]) -> u8
+// The fourth byte of a name in lower case, and 0 where there is none.
+fn fourth_letter(name: &[u8]) -> u8
     ensures { result ≡ letter_of name.now }
 {
-    match name {
-        [first, ..] => first.to_ascii_lowercase(),
-        [] => 0,
+    match name.get(3) {
+        Some(letter) => letter.to_ascii_lowercase(),
+        None => 0,
     }
 }
 
@@ -39,25 +38,20 @@ impl FieldName {
     pub fn of(name: &[u8]) -> Option<FieldName>
         ensures { MatchOption result ((field : FieldName) → spells name.now field ≡ false) (λ field. spells name.now field ≡ true) }
     {
-        let fields = FieldName::of_length(name.len());
-        let letter = first_letter(name);
-        for field in fields {
-            if field.is_spelled(name, letter) {
-                return Some(*field);
-            }
+        let Some(field) = FieldName::told_by(name.len(), fourth_letter(name)) else {
+            return None;
+        };
+        if field.is_spelled(name) {
+            Some(field)
+        } else {
+            None
         }
-        None
     }
 
-    // Whether a name that begins with this letter is the field's, without regard to ASCII case. Most others show it by
-    // their letter, and most that are show it by the same bytes.
-    fn is_spelled(self, name: &[u8], letter: u8) -> bool
-        requires { letter ≡ letter_of name.now }
+    // Whether a name is the field's, without regard to ASCII case. Most that are show it by the same bytes.
+    fn is_spelled(self, name: &[u8]) -> bool
         ensures { result ≡ spells name.now self }
     {
-        if self.letter() != letter {
-            return false;
-        }
         let spelling = self.spelling();
         if name == spelling {
             return true;
@@ -65,38 +59,24 @@ impl FieldName {
         name.eq_ignore_ascii_case(spelling)
     }
 
-    // The letter that the name begins with, in lower case.
-    fn letter(self) -> u8
-        ensures { result ≡ letter_of (spelling self) }
+    // The one whose name has so many bytes and this fourth letter, in lower case. No two share both, and few other names of a
+    // packages file share both with one.
+    fn told_by(len: usize, letter: u8) -> Option<FieldName>
+        ensures { only result ≡ told_by len letter }
     {
-        match self {
-            FieldName::Package => b'p',
-            FieldName::Status => b's',
-            FieldName::Version => b'v',
-            FieldName::Architecture => b'a',
-            FieldName::Essential => b'e',
-            FieldName::PreDepends => b'p',
-            FieldName::Depends => b'd',
-            FieldName::Recommends => b'r',
-            FieldName::Conflicts => b'c',
-            FieldName::Breaks => b'b',
-            FieldName::Provides => b'p',
-        }
-    }
-
-    // Those whose names have so many bytes, three at most.
-    fn of_length(len: usize) -> &'static [FieldName]
-        ensures { result.now ≡ filter (λ field. nat_eq (length (spelling field)) len) all_names }
-    {
-        match len {
-            6 => &[FieldName::Status, FieldName::Breaks],
-            7 => &[FieldName::Package, FieldName::Version, FieldName::Depends],
-            8 => &[FieldName::Provides],
-            9 => &[FieldName::Essential, FieldName::Conflicts],
-            10 => &[FieldName::Recommends],
-            11 => &[FieldName::PreDepends],
-            12 => &[FieldName::Architecture],
-            _ => &[],
+        match (len, letter) {
+            (6, b't') => Some(FieldName::Status),
+            (6, b'a') => Some(FieldName::Breaks),
+            (7, b'k') => Some(FieldName::Package),
+            (7, b's') => Some(FieldName::Version),
+            (7, b'e') => Some(FieldName::Depends),
+            (8, b'v') => Some(FieldName::Provides),
+            (9, b'e') => Some(FieldName::Essential),
+            (9, b'f') => Some(FieldName::Conflicts),
+            (10, b'o') => Some(FieldName::Recommends),
+            (11, b'-') => Some(FieldName::PreDepends),
+            (12, b'h') => Some(FieldName::Architecture),
+            _ => None,
         }
     }
 

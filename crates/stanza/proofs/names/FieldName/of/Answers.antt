@@ -1,17 +1,19 @@
-use Rattle.std.proofs.Common.{rules, ◌≡◌, ◌||◌, false, ap, ◌∙◌, get_or}
-use Rattle.std.proofs.lemmas.List.Folds.{list_any_more}
-use Rattle.stanza.specs.declared.names.FieldName.TheVariants.{Package}
-use Rattle.stanza.specs.Names.{spells}
+use Rattle.std.proofs.Common.{◌≡◌, ◌||◌, [], ◌∷◌, false, length, ap, sym, ◌∙◌}
+use Rattle.std.specs.List.{list_any}
+use Rattle.stanza.specs.Names.{letter_of, only, spells, told_by}
 use Rattle.stanza.proofs.Found.{none_spelled}
 use Rattle.stanza.proofs.names.FieldName.of.Goals as goal
 
-pub loop-field-preserved : goal.loop-field-preserved
-loop-field-preserved c =
-    let fields = c.of_length-fields.result.now in
-    let place = c.loop-field.field-index in
-    let spelled = spells c.args.name.now in
-    let other : spelled (get_or fields place Package) ≡ false = search rules in
-    list_any_more spelled fields place Package c.loop-field-test.true ∙ ap (λ b. b || spelled (get_or fields place Package)) c.loop-field.invariant ∙ other
+pub returns-in_default : goal.returns-in_default
+returns-in_default c =
+    let name = c.args.name.now in
+    let told : told_by (length name) (letter_of name) ≡ [] = ap (told_by (length name)) (sym c.fourth_letter.ensures) ∙ sym c.told_by.ensures ∙ ap only c.in_default.is in
+    none_spelled name (ap (list_any (spells name)) told)
 
-pub returns : goal.returns
-returns c = none_spelled c.args.name.now (search rules)
+pub returns-else-is_spelled : goal.returns-else-is_spelled
+returns-else-is_spelled c =
+    let name = c.args.name.now in
+    let field = c.in-Some.field in
+    let told : told_by (length name) (letter_of name) ≡ field ∷ [] = ap (told_by (length name)) (sym c.fourth_letter.ensures) ∙ sym c.told_by.ensures ∙ ap only c.in-Some.is in
+    let other : spells name field ≡ false = sym c.is_spelled.ensures ∙ c.if-is_spelled.false in
+    none_spelled name (ap (list_any (spells name)) told ∙ ap (λ b. b || false) other)
