@@ -7,12 +7,11 @@ use Rattle.std.specs.Map.{lookup}
 use Rattle.std.proofs.lemmas.Bool.{cases_lt, eqb-true, eqb-false, false_from_ne_true, ne_eqb}
 use Rattle.std.proofs.lemmas.Bool.Decides.{nat_tests}
 use Rattle.std.proofs.lemmas.Grind.{get_or_default_zero}
-use Rattle.std.proofs.lemmas.List.{get_or-map, get_or-replicate, get_or-set_same, get_or-set_other, get_or_past, get_or_push, get_or_append_left, length-replicate, length_push}
+use Rattle.std.proofs.lemmas.List.{get_or-replicate, get_or-set_same, get_or-set_other, get_or_past, get_or_push, get_or_append_left, length-replicate, length_push}
 use Rattle.ascii.specs.Texts.{is_same}
 use Rattle.universe_parts.specs.Hashes.{share_of}
-use Rattle.universe_parts.specs.Names.{AreNumbered, first_in, is_key, number_from, number_in, slot_at, texts}
+use Rattle.universe_parts.specs.Names.{AreNumbered, first_in, is_key, number_from, number_in, slot_at}
 use Rattle.universe_parts.proofs.Numbering.{apart-cases, key_order, lookup-insert, position-push, same-bytes}
-use Rattle.universe_parts.proofs.Texts.{length-texts}
 
 -- ---- names with one more
 
@@ -164,21 +163,24 @@ numbered-none n = record {
 
 -- ---- what is found
 
-module _ (list : List (Vec ℕ)) (slots : List ℕ) (others : List (Vec ℕ × ℕ)) (name : List ℕ) (numbered : AreNumbered (texts list) slots others) where
-  found-first : (first : ℕ) (kept : Vec ℕ) (same : Bool) → first_in (slot_at slots name) ≡ Some first → kept ≡ get_or list first kept → is_same name kept.items ≡ same
-      → cond same (Some first) (lookup (is_key name) others) ≡ position (is_same name) (texts list)
-  found-first first kept same at is e =
-      let within : first < length list = let long = length-texts list in let less = numbered.within name first at in omega arith in
-      let text : get_or (texts list) first [] ≡ kept.items =
-      get_or-map (λ (v : Vec ℕ). v.items) list first kept [] within ∙ ap (λ (v : Vec ℕ). v.items) (sym is) in
-      ap (λ b. cond b (Some first) (lookup (is_key name) others)) (sym (ap (is_same name) text ∙ e))
-      ∙ ap (number_from (texts list) others name) (sym at)
-      ∙ numbered.at name
+module _ (names : List (List ℕ)) (slots : List ℕ) (others : List (Vec ℕ × ℕ)) (name : List ℕ) (numbered : AreNumbered names slots others) where
+  -- what stands in the slot of the name was read
+  slot-read : (share slot first : ℕ) (number : Option ℕ) → length slots ≡ 524288 → share < 524288 → share ≡ share_of name → slot ≡ get_or slots share slot
+      → number ≡ first_in slot → number ≡ Some first → first_in (slot_at slots name) ≡ Some first
+  slot-read share slot first number sized range is read gives some =
+      let at : slot ≡ slot_at slots name = read ∙ get_or_default_zero slots share slot (omega arith) ∙ ap (λ (k : ℕ). get_or slots k 0) is in
+      ap first_in (sym at) ∙ sym gives ∙ some
+
+  -- so it is the number of a name
+  pub found-within : (share slot first : ℕ) (number : Option ℕ) → length slots ≡ 524288 → share < 524288 → share ≡ share_of name → slot ≡ get_or slots share slot
+      → number ≡ first_in slot → number ≡ Some first → first < length names
+  found-within share slot first number sized range is read gives some = numbered.within name first (slot-read share slot first number sized range is read gives some)
 
   -- the first name of a share was read, and whether it is the name
-  pub found-read : (share slot first : ℕ) (number : Option ℕ) (kept : Vec ℕ) (text : List ℕ) (same : Bool) → length slots ≡ 524288 → share < 524288 → share ≡ share_of name → slot ≡ get_or slots share slot
-      → number ≡ first_in slot → number ≡ Some first → kept ≡ get_or list first kept → text ≡ kept.items → same ≡ is_same name text
-      → cond same (Some first) (lookup (is_key name) others) ≡ position (is_same name) (texts list)
-  found-read share slot first number kept text same sized range is read gives some there bytes e =
-      let at : slot ≡ slot_at slots name = read ∙ get_or_default_zero slots share slot (omega arith) ∙ ap (λ (k : ℕ). get_or slots k 0) is in
-      found-first first kept same (ap first_in (sym at) ∙ sym gives ∙ some) there (sym (e ∙ ap (is_same name) bytes))
+  pub found-read : (share slot first : ℕ) (number : Option ℕ) (text : List ℕ) (same : Bool) → length slots ≡ 524288 → share < 524288 → share ≡ share_of name → slot ≡ get_or slots share slot
+      → number ≡ first_in slot → number ≡ Some first → text ≡ get_or names first [] → same ≡ is_same name text
+      → cond same (Some first) (lookup (is_key name) others) ≡ position (is_same name) names
+  found-read share slot first number text same sized range is read gives some there e =
+      ap (λ b. cond b (Some first) (lookup (is_key name) others)) (e ∙ ap (is_same name) there)
+      ∙ ap (number_from names others name) (sym (slot-read share slot first number sized range is read gives some))
+      ∙ numbered.at name

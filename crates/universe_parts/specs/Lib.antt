@@ -1,3 +1,4 @@
 pub mod Hashes
+pub mod TextTables
 pub mod Names
 pub mod Listed

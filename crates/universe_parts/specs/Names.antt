@@ -1,14 +1,10 @@
 -- Lists of names, and how their numbers are found.
-use Rattle.std.specs.Prelude.{◌≡◌, ◌<◌, ◌-◌, ℕ, Bool, List, [], ◌∷◌, ◌++◌, map, length, nat_eq, if◌then◌else◌, slice_index_or, Option, Some, None}
+use Rattle.std.specs.Prelude.{◌≡◌, ◌<◌, ◌-◌, ℕ, Bool, List, [], ◌∷◌, ◌++◌, length, nat_eq, if◌then◌else◌, slice_index_or, Option, Some, None}
 use Rattle.std.specs.List.{list_any, position}
 use Rattle.std.specs.Map.{lookup}
 use Rattle.std.specs.Global.{Vec}
 use Rattle.ascii.specs.Texts.{is_same}
 use Rattle.universe_parts.specs.Hashes.{share_of}
-
--- the bytes of each name
-abbrev pub texts : List (Vec ℕ) → List (List ℕ)
-texts names = map (λ (v : Vec ℕ). v.items) names
 
 -- a name is added at the end, unless it is there
 abbrev pub with_name : List (List ℕ) → List ℕ → List (List ℕ)

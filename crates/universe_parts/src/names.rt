@@ -4,9 +4,10 @@ ghost use Rattle.std.specs.Prelude.{◌≡◌, ◌<◌, [], ◌∷◌, ◌++◌,
 ghost use Rattle.std.specs.List.{position, position_or_len};
 ghost use Rattle.ascii.specs.Texts.{is_same};
 ghost use Rattle.universe_parts.specs.Hashes.{share_of};
-ghost use Rattle.universe_parts.specs.Names.{AreNumbered, first_in, texts, with_name};
+ghost use Rattle.universe_parts.specs.Names.{AreNumbered, first_in, with_name};
 ghost use Rattle.lists.specs.Distinct.{distinct};
 
+use crate::text_table::TextTable;
 use choice_set::NoMemory;
 use std::alloc::Global;
 use std::collections::BTreeMap;
@@ -18,22 +19,21 @@ use std::marker::Model;
 /// names are chosen, one is found among many by halves.
 #[derive(Drop)]
 pub struct Names {
-    list: Vec<Vec<u8>>,
+    list: TextTable,
     // of each share 0, or 1 more than the number of its first name
     slots: Vec<u32>,
     // the names that found their slots taken
     others: BTreeMap<Vec<u8>, usize>,
     ghost sized: { length slots.items ≡ 524288 },
-    ghost numbered: { AreNumbered (texts list.items) slots.items others.entries },
+    ghost numbered: { AreNumbered list slots.items others.entries },
 }
 
 impl Model for Names {
     ghost use Rattle.std.specs.Prelude.{ℕ, List};
-    ghost use Rattle.universe_parts.specs.Names.{texts};
 
     ghost Value = { List (List ℕ) };
 
-    ghost view = { λ n. texts n.list.items };
+    ghost view = { λ n. n.list };
 }
 
 // Slots of which none is taken.
@@ -101,7 +101,7 @@ impl Names {
     {
         let slots = free_slots(alloc, 524_288)?;
         Ok(Names {
-            list: Vec::new(alloc),
+            list: TextTable::new(alloc),
             slots,
             others: BTreeMap::new(alloc),
         })
@@ -119,7 +119,7 @@ impl Names {
         ensures { result ≡ position (is_same name.now) self.now }
     {
         let first = first_in(self.slots[share_of(name)])?;
-        if name == self.list[first].as_slice() {
+        if name == self.list.at(first) {
             return Some(first);
         }
         self.others.get(name).copied()
@@ -130,7 +130,7 @@ impl Names {
         requires { number < length self.now }
         ensures { slice_get self.now number ≡ Some result.now }
     {
-        self.list[number].as_slice()
+        self.list.at(number)
     }
 
     /// Adds a name, unless it is there, and gives its number. So the names are the distinct ones of all that were added,
@@ -144,10 +144,13 @@ impl Names {
             return Ok(number);
         }
         let number = self.list.len();
-        let kept = Vec::from_slice(alloc, name)?;
-        self.list.reserve(1)?;
-        number_name(alloc, &mut self.slots, &mut self.others, name, number)?;
-        self.list.push_reserved(kept);
-        Ok(number)
+        self.list.push(name)?;
+        match number_name(alloc, &mut self.slots, &mut self.others, name, number) {
+            Ok(()) => Ok(number),
+            Err(NoMemory) => {
+                self.list.truncate(number);
+                Err(NoMemory)
+            }
+        }
     }
 }

@@ -11,7 +11,7 @@ use Rattle.universe_parts.proofs.names.Names.number_of.Goals as goal
 pub returns-then-eq : goal.returns-then-eq
 returns-then-eq c =
     ap (λ (same : Bool). cond same (Some c.in_ok-first.first) (lookup (is_key c.args.name.now) c.self.inside.others.entries)) (sym c.if-eq.true)
-    ∙ found-read c.self.inside.list.items c.self.inside.slots.items c.self.inside.others.entries c.args.name.now c.self.inside.numbered c.share_of.result c.index.result.now c.in_ok-first.first c.first_in.result c.index-2.result.now c.as_slice.result.now c.eq.result c.self.inside.sized c.share_of.ensures.range c.share_of.ensures.share c.index.ensures c.first_in.ensures c.in_ok-first.was c.index-2.ensures c.as_slice.ensures.value c.eq.ensures
+    ∙ found-read c.self.inside.list c.self.inside.slots.items c.self.inside.others.entries c.args.name.now c.self.inside.numbered c.share_of.result c.index.result.now c.in_ok-first.first c.first_in.result c.at.result.now c.eq.result c.self.inside.sized c.share_of.ensures.range c.share_of.ensures.share c.index.ensures c.first_in.ensures c.in_ok-first.was c.at.ensures c.eq.ensures
     ∙ ap (position (is_same c.args.name.now)) c.self.view_is
 
 pub returns : goal.returns
@@ -20,5 +20,5 @@ returns c =
     ∙ c.get.ensures.value
     ∙ lookup-same c.args.name.now c.self.inside.others.entries
     ∙ ap (λ (same : Bool). cond same (Some c.in_ok-first.first) (lookup (is_key c.args.name.now) c.self.inside.others.entries)) (sym c.if-eq.false)
-    ∙ found-read c.self.inside.list.items c.self.inside.slots.items c.self.inside.others.entries c.args.name.now c.self.inside.numbered c.share_of.result c.index.result.now c.in_ok-first.first c.first_in.result c.index-2.result.now c.as_slice.result.now c.eq.result c.self.inside.sized c.share_of.ensures.range c.share_of.ensures.share c.index.ensures c.first_in.ensures c.in_ok-first.was c.index-2.ensures c.as_slice.ensures.value c.eq.ensures
+    ∙ found-read c.self.inside.list c.self.inside.slots.items c.self.inside.others.entries c.args.name.now c.self.inside.numbered c.share_of.result c.index.result.now c.in_ok-first.first c.first_in.result c.at.result.now c.eq.result c.self.inside.sized c.share_of.ensures.range c.share_of.ensures.share c.index.ensures c.first_in.ensures c.in_ok-first.was c.at.ensures c.eq.ensures
     ∙ ap (position (is_same c.args.name.now)) c.self.view_is
