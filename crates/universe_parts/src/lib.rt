@@ -10,4 +10,3 @@ mod text_table;
 pub use listed::{ListedVersion, ReadStanza};
 pub use meeting::{is_counted, is_plain, is_provided_by, is_provided_within, is_within};
 pub use names::Names;
-pub use text_table::{TextSpan, TextTable};
