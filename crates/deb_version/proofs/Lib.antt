@@ -1,4 +1,5 @@
 pub mod Beginnings
+pub mod ByteTables
 pub mod Cuts
 pub mod Epochs
 pub mod Keys

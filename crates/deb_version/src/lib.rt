@@ -140,12 +140,25 @@ fn revision_at(rest: &[u8], hyphen: Option<usize>) -> &[u8]
     }
 }
 
+// The bytes of a revision, each at its own place, and a comma at all others.
+static REVISION_BYTES: [u8; 256] = *b"\
+    ,,,,,,,,,,,,,,,,,,,,,,,,,,,,,,,,\
+    ,,,,,,,,,,,+,,.,0123456789,,,,,,\
+    ,ABCDEFGHIJKLMNOPQRSTUVWXYZ,,,,,\
+    ,abcdefghijklmnopqrstuvwxyz,,,~,\
+    ,,,,,,,,,,,,,,,,,,,,,,,,,,,,,,,,\
+    ,,,,,,,,,,,,,,,,,,,,,,,,,,,,,,,,\
+    ,,,,,,,,,,,,,,,,,,,,,,,,,,,,,,,,\
+    ,,,,,,,,,,,,,,,,,,,,,,,,,,,,,,,,";
+
+#[inline(always)]
 fn is_revision_byte(byte: u8) -> bool
     ensures { result ≡ is_revision_byte byte }
 {
-    matches!(byte, b'0'..=b'9' | b'A'..=b'Z' | b'a'..=b'z' | b'+' | b'.' | b'~')
+    REVISION_BYTES[byte as usize] != b','
 }
 
+#[inline(always)]
 fn is_upstream_byte(epoch: bool, byte: u8) -> bool
     ensures { result ≡ is_upstream_byte epoch byte }
 {
@@ -212,6 +225,9 @@ pub fn compare(a: &Version<'_>, b: &Version<'_>) -> Ordering
     ensures order { result ≡ version_order (parts a.now.text.now) (parts b.now.text.now) }
     ensures preorder { IsTotalPreorder version_order }
 {
+    if a.text == b.text {
+        return Ordering::Equal;
+    }
     let by_epoch = compare_numbers(a.epoch, b.epoch);
     if by_epoch.is_ne() {
         return by_epoch;

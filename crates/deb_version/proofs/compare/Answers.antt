@@ -1,7 +1,7 @@
-use Rattle.std.proofs.Common.{◌≡◌, false, rules, ◌∙◌}
+use Rattle.std.proofs.Common.{◌≡◌, false, rules, ◌∙◌, sym, subst, Equal}
 use Rattle.std.specs.Ordering.{nat_cmp, is_ne}
 use Rattle.deb_version.specs.Versions.{parts}
-use Rattle.deb_version.specs.VersionOrder.{number, part_order}
+use Rattle.deb_version.specs.VersionOrder.{number, part_order, version_order}
 use Rattle.deb_version.proofs.Keys.{version_order-preorder, by_revision}
 use Rattle.deb_version.proofs.compare.Goals as goal
 
@@ -22,3 +22,12 @@ returns-clause-order c =
 
 pub returns-clause-preorder : goal.returns-clause-preorder
 returns-clause-preorder c = version_order-preorder
+
+pub returns-then-eq-clause-order : goal.returns-then-eq-clause-order
+returns-then-eq-clause-order c =
+    let a = c.args.a.now.text.now in
+    let same : a ≡ c.args.b.now.text.now = search rules in
+    subst (λ b. Equal ≡ version_order (parts a) (parts b)) same (sym (version_order-preorder.reflexive (parts a)))
+
+pub returns-then-eq-clause-preorder : goal.returns-then-eq-clause-preorder
+returns-then-eq-clause-preorder c = version_order-preorder
