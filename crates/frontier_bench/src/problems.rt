@@ -1,9 +1,10 @@
 // Problems made by hand, their tables, and children of a leaf.
 ghost use Rattle.std.specs.Prelude.{◌≡◌, ◌<◌, [], IfOk, IsTrue, nat_lt};
 ghost use Rattle.std.specs.List.{list_all};
-ghost use Rattle.frontier.specs.Stores.{AreBelow};
+ghost use Rattle.frontier.specs.Stores.{AreCosted};
 
 use choice_set::{ChoiceSet, NoMemory};
+use cost_vector::CostTable;
 use frontier::{Child, Children};
 use partial_sol::Node;
 use problem::{Builder, Problem};
@@ -63,17 +64,24 @@ pub fn add_child(
     alloc: Global,
     children: &mut Children,
     problem: &Problem,
-    choices: u32,
+    table: &CostTable,
     taken: &[u32],
 ) -> Option<()>
-    requires { AreBelow choices children.old }
-    ensures { AreBelow choices children.new }
+    requires { AreCosted table.now children.old }
+    ensures { AreCosted table.now children.new }
 {
-    let Ok(taken) = versions_of(alloc, choices, taken) else {
+    let Ok(taken) = versions_of(alloc, table.choices(), taken) else {
         return None;
     };
     let closed = is_closed(problem, &taken);
     let barred = ChoiceSet::empty(alloc);
     let node = Node { taken, barred };
-    children.push(Child { node, closed }).ok()
+    let cost = table.cost(alloc, &node.taken).ok()?;
+    children
+        .push(Child {
+            node,
+            closed,
+            cost,
+        })
+        .ok()
 }

@@ -1,6 +1,6 @@
 // A store with as many leaves as a search may have.
 ghost use Rattle.std.specs.Prelude.{◌≡◌, ◌<◌, [], IfSome, IsTrue, is_some};
-ghost use Rattle.frontier.specs.Stores.{AreBelow};
+ghost use Rattle.frontier.specs.Stores.{AreCosted};
 
 use crate::problems::{add_child, add_dep, add_package};
 use choice_set::ChoiceSet;
@@ -60,13 +60,18 @@ fn flat_table(alloc: Global, problem: &Problem) -> Option<CostTable> {
 }
 
 // So many children, which take one version each of a package from 10,001 on, over and over.
-fn children(alloc: Global, problem: &Problem, choices: u32, count: u32) -> Option<Children>
-    ensures { IfSome result (AreBelow choices) }
+fn children(
+    alloc: Global,
+    problem: &Problem,
+    table: &CostTable,
+    count: u32,
+) -> Option<Children>
+    ensures { IfSome result (AreCosted table.now) }
 {
     let mut children = Children::new(alloc);
     for number in 0..count {
         let package = 10_001 + number % 189_998;
-        add_child(alloc, &mut children, problem, choices, &[2 * package + 1])?;
+        add_child(alloc, &mut children, problem, table, &[2 * package + 1])?;
     }
     Some(children)
 }
@@ -88,14 +93,8 @@ fn show(frontier: &mut Frontier, alloc: Global, problem: &Problem) -> Option<()>
 }
 
 // Splits the leaf that is wanted.
-fn split(
-    frontier: &mut Frontier,
-    alloc: Global,
-    table: &CostTable,
-    children: Children,
-) -> Option<()>
-    requires table { frontier.old.table ≡ table.now }
-    requires choices { AreBelow table.now.choices children }
+fn split(frontier: &mut Frontier, alloc: Global, children: Children) -> Option<()>
+    requires { AreCosted frontier.old.table children }
     ensures problem { frontier.new.problem ≡ frontier.old.problem }
     ensures lines { frontier.new.lines ≡ frontier.old.lines }
 {
@@ -103,16 +102,16 @@ fn split(
         return None;
     };
     frontier.take(alloc, leaf).ok()?;
-    frontier.put_children(alloc, table, leaf, children).ok()
+    frontier.put_children(alloc, leaf, children).ok()
 }
 
 // A store over the problem, whose root is split into so many children.
 fn store_of(alloc: Global, problem: &Problem, count: u32) -> Option<Frontier> {
     let table = flat_table(alloc, problem)?;
-    let children = children(alloc, problem, table.choices(), count)?;
+    let children = children(alloc, problem, &table, count)?;
     let mut frontier = Frontier::new(alloc, &table, false).ok()?;
     show(&mut frontier, alloc, problem)?;
-    split(&mut frontier, alloc, &table, children)?;
+    split(&mut frontier, alloc, children)?;
     show(&mut frontier, alloc, problem)?;
     Some(frontier)
 }

@@ -1,8 +1,8 @@
 // The leaves of a tree under rules, deliveries and lines that change.
-ghost use Rattle.std.specs.Prelude.{◌≡◌, length, take, IsTrue, nat_lt};
+ghost use Rattle.std.specs.Prelude.{◌≡◌, length, take, nat_lt};
 ghost use Rattle.std.specs.List.{list_all};
 ghost use Rattle.std.specs.Option.{IfSome};
-ghost use Rattle.frontier.specs.Stores.{AreBelow};
+ghost use Rattle.frontier.specs.Stores.{AreCosted};
 
 use crate::splits::{first_open, nodes_by_choice, nodes_by_dep};
 use basis::Basis;
@@ -44,19 +44,26 @@ fn are_below(set: &ChoiceSet, count: u32) -> bool
 
 // Adds a node to children; nothing where it takes a number that is no choice of the table.
 fn add_child(alloc: Global, children: &mut Children, basis: &Basis, node: Node) -> Option<()>
-    requires { AreBelow basis.now.table.choices children.old }
-    ensures { AreBelow basis.now.table.choices children.new }
+    requires { AreCosted basis.now.table children.old }
+    ensures { AreCosted basis.now.table children.new }
 {
     if !are_below(&node.taken, basis.table.choices()) {
         return None;
     }
     let closed = first_open(alloc, &basis.problem, &node.taken)?.is_none();
-    children.push(Child { node, closed }).ok()
+    let cost = basis.table.cost(alloc, &node.taken).ok()?;
+    children
+        .push(Child {
+            node,
+            closed,
+            cost,
+        })
+        .ok()
 }
 
 // The nodes as children.
 fn children_of(alloc: Global, basis: &Basis, nodes: Vec<Node>) -> Option<Children>
-    ensures { IfSome result (AreBelow basis.now.table.choices) }
+    ensures { IfSome result (AreCosted basis.now.table) }
 {
     let mut children = Children::new(alloc);
     for node in nodes {
@@ -148,7 +155,7 @@ impl Scene {
         let children = children_of(alloc, &self.basis, nodes)?;
         let count = children.len();
         self.frontier
-            .put_children(alloc, &self.basis.table, leaf, children)
+            .put_children(alloc, leaf, children)
             .ok()?;
         Some(Split {
             leaf,

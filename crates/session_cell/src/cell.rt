@@ -133,7 +133,7 @@ impl SessionCell {
         requires cell { IsPassOf self.now pass.old }
         requires basis { IsFor self.now.start basis.now.problem basis.now.table }
         requires job { HasOut pass.old job }
-        requires outcome { outcome ≡ outcome_of basis.now.problem job }
+        requires outcome { outcome ≡ outcome_of basis.now.problem basis.now.table job }
         ensures turn { (before : History) × (entries : History) × IsTurn pass.old before entries pass.new × ArePut pass.old.hand.start.setting before job result entries }
         ensures out { OnErr result (HasOut pass.new job) }
         ensures room { pass.old.hand.reserved ≡ true → pass.new.hand.reserved ≡ true }

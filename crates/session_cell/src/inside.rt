@@ -115,7 +115,7 @@ pub(crate) fn put_inside(
     requires session { HasSession seat.old.me }
     requires basis { IsFor (session_of seat.old.me) basis.now.problem basis.now.table }
     requires job { WasOut (session_of seat.old.me).setting (session_of seat.old.me).history job }
-    requires outcome { outcome ≡ outcome_of basis.now.problem job }
+    requires outcome { outcome ≡ outcome_of basis.now.problem basis.now.table job }
     ensures seat { seat.new.table_id ≡ seat.old.table_id }
     ensures called { (entries : History) × Called job.actor seat.old.me entries seat.new.me × ArePut (session_of seat.old.me).setting (session_of seat.old.me).history job result.0 entries }
     ensures kept { (session_of seat.new.me).rooms ≡ (session_of seat.old.me).rooms }

@@ -9,5 +9,8 @@ next_member yielded rest items all node more e f g =
     let A : List Node → Type 0 = λ xs. Member node (yielded ++ xs) in
     subst M (e ∙ f) (subst A (sym g) (Member-append_right node yielded (node ∷ more) (inl refl)))
 
-pub is_closed_at-requires-clause-larger : goal.is_closed_at-requires-clause-larger
-is_closed_at-requires-clause-larger c = c.requires.nodes c.in-Some.node (next_member c.loop-node.yielded _ _ c.args.nodes.items c.in-Some.node _ c.loop-node.invariant.0 c.into_iter-node-iterator.ensures.into_iter_gives.0 c.in-Some.ensures.steps.0)
+pub child_of-requires-clause-larger : goal.child_of-requires-clause-larger
+child_of-requires-clause-larger c = c.requires.nodes c.in-Some.node (next_member c.loop-node.yielded _ _ c.args.nodes.items c.in-Some.node _ c.loop-node.invariant.0 c.into_iter-node-iterator.ensures.into_iter_gives.0 c.in-Some.ensures.steps.0)
+
+pub child_of-requires-clause-choices : goal.child_of-requires-clause-choices
+child_of-requires-clause-choices c = c.requires.choices c.in-Some.node (next_member c.loop-node.yielded _ _ c.args.nodes.items c.in-Some.node _ c.loop-node.invariant.0 c.into_iter-node-iterator.ensures.into_iter_gives.0 c.in-Some.ensures.steps.0)

@@ -1,0 +1,5 @@
+use Rattle.std.proofs.Common.{◌≡◌, ap, sym, ◌∙◌}
+use Rattle.search_core.proofs.splitting.child_without.Goals as goal
+
+pub returns : goal.returns
+returns c p table open same = cc (c.is_closed.ensures p c.args.node.taken open, c.in_ok-cost.ensures, same)
