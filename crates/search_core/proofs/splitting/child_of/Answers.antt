@@ -19,8 +19,8 @@ child_with-requires-clause-choice c =
 pub child_with-requires-clause-new : goal.child_with-requires-clause-new
 child_with-requires-clause-new c = not-true _ (found_in (λ x. not (has c.args.set.now x)) c.args.node.taken c.in-Some.choice (sym c.in-Some.ensures)).0
 
-pub returns-in_ok-child_without-in-None : goal.returns-in_ok-child_without-in-None
-returns-in_ok-child_without-in-None c =
+pub returns-in-None : goal.returns-in-None
+returns-in-None c =
     let same = no_more c.args.set.now c.args.node.taken c.requires.rising c.requires.larger (sym c.in-None.ensures) in
     let p = c.args.basis.now.problem in
     let t = c.args.basis.now.table in

@@ -1,7 +1,7 @@
 use Rattle.std.proofs.Common.{List, sym, subst}
-use Rattle.std.proofs.lemmas.Bool.{and_parts}
-use Rattle.lists.specs.Sets.{is_rising}
 use Rattle.resolver_model.specs.declared.node.Node.{Node}
+use Rattle.resolver_model.specs.declared.history.By.{By}
+use Rattle.resolver_model.specs.Trees.{split}
 use Rattle.search_core.specs.Ways.{AreUpToOneMore, AreWithin}
 use Rattle.search_core.proofs.Known.{IsWithin-node, AreWithin-split}
 use Rattle.search_core.proofs.Opens.{split_takes_one}
@@ -25,4 +25,6 @@ children_of-requires-clause-choices c =
     let choices = c.args.basis.now.table.choices in
     let job = c.args.job.now in
     let by = c.way-by.ensures p job.node c.in_ok-list.ensures in
-    AreWithin-split p choices job c.args.basis.now.fits c.requires
+    let W : List Node → Type 0 = λ nodes. AreWithin choices nodes in
+    let B : By → Type 0 = λ b. W (split p job.node b) in
+    subst W (sym c.in_ok-nodes.ensures) (subst B (sym by) (AreWithin-split p choices job c.args.basis.now.fits c.requires))
