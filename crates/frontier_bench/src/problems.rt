@@ -59,6 +59,22 @@ fn is_closed(problem: &Problem, set: &ChoiceSet) -> bool {
     true
 }
 
+// Adds a node as a child, with its cost.
+fn add_node(
+    alloc: Global,
+    children: &mut Children,
+    table: &CostTable,
+    node: Node,
+    closed: bool,
+) -> Option<()>
+    requires costs { AreCosted table.now children.old }
+    requires choices { IsTrue (list_all (λ c. nat_lt c table.now.choices) node.taken) }
+    ensures { AreCosted table.now children.new }
+{
+    let cost = table.cost(alloc, &node.taken).ok()?;
+    children.push(Child { node, closed, cost }).ok()
+}
+
 // Adds a child that takes these choices; `closed` is told by the problem.
 pub fn add_child(
     alloc: Global,
@@ -75,13 +91,5 @@ pub fn add_child(
     };
     let closed = is_closed(problem, &taken);
     let barred = ChoiceSet::empty(alloc);
-    let node = Node { taken, barred };
-    let cost = table.cost(alloc, &node.taken).ok()?;
-    children
-        .push(Child {
-            node,
-            closed,
-            cost,
-        })
-        .ok()
+    add_node(alloc, children, table, Node { taken, barred }, closed)
 }

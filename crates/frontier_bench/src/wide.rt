@@ -60,12 +60,7 @@ fn flat_table(alloc: Global, problem: &Problem) -> Option<CostTable> {
 }
 
 // So many children, which take one version each of a package from 10,001 on, over and over.
-fn children(
-    alloc: Global,
-    problem: &Problem,
-    table: &CostTable,
-    count: u32,
-) -> Option<Children>
+fn children(alloc: Global, problem: &Problem, table: &CostTable, count: u32) -> Option<Children>
     ensures { IfSome result (AreCosted table.now) }
 {
     let mut children = Children::new(alloc);

@@ -52,13 +52,7 @@ fn add_child(alloc: Global, children: &mut Children, basis: &Basis, node: Node) 
     }
     let closed = first_open(alloc, &basis.problem, &node.taken)?.is_none();
     let cost = basis.table.cost(alloc, &node.taken).ok()?;
-    children
-        .push(Child {
-            node,
-            closed,
-            cost,
-        })
-        .ok()
+    children.push(Child { node, closed, cost }).ok()
 }
 
 // The nodes as children.
@@ -154,9 +148,7 @@ impl Scene {
         };
         let children = children_of(alloc, &self.basis, nodes)?;
         let count = children.len();
-        self.frontier
-            .put_children(alloc, leaf, children)
-            .ok()?;
+        self.frontier.put_children(alloc, leaf, children).ok()?;
         Some(Split {
             leaf,
             by,
