@@ -1,15 +1,18 @@
 -- What a slice of search does through its pass.
-use Rattle.std.specs.Prelude.{◌≡◌, ◌⊎◌, ◌*◌, ◌<◌, ◌≤◌, ℕ, List, [], ◌∷◌, ◌++◌, length, true, None, ⊤}
+use Rattle.std.specs.Prelude.{◌≡◌, ◌⊎◌, ◌*◌, ◌<◌, ◌≤◌, ℕ, List, [], ◌∷◌, ◌++◌, length, true, None, ⊤, Result, Ok, Err}
 use mathlib.Core.List.{IsPrefix}
 use Rattle.resolver_model.specs.declared.lines.Line.{Line}
 use Rattle.resolver_model.specs.declared.history.By.{By}
 use Rattle.resolver_model.specs.declared.history.Entry.TheVariants.{Take, Put, Back}
 use Rattle.resolver_model.specs.Histories.{History, out_at}
 use Rattle.search_core.specs.Sessions.{IsTaken}
+use Rattle.search_core.specs.declared.jobs.Job.{Job}
 use Rattle.search_core.specs.declared.jobs.Taken.{Taken}
 use Rattle.search_core.specs.declared.jobs.Taken.TheVariants as took
 use Rattle.cell_rule.specs.declared.view.Hand.{Hand}
-use Rattle.session_cell.specs.Passes.{Cell, Pass, IsPassOf}
+use Rattle.session_cell.specs.declared.next.Next.{Next}
+use Rattle.session_cell.specs.declared.next.Next.TheVariants as next
+use Rattle.session_cell.specs.Passes.{Cell, Pass, IsPassOf, HasOut}
 use Rattle.search_thread.specs.declared.Tried.{Tried}
 use Rattle.search_thread.specs.declared.Tried.TheVariants as tried
 use Rattle.search_thread.specs.declared.SliceEnd.{SliceEnd}
@@ -96,3 +99,32 @@ IsEndedBySplit old leaf new = (by : By) × (learned : List Line) × (new.hand.ma
 
 abbrev pub IsEndedByBack : Pass → ℕ → Pass → Type 0
 IsEndedByBack old leaf new = new.hand.made ≡ old.hand.made ++ Back old.hand.actor leaf ∷ []
+
+-- the job that was taken, or how a slice ends that got none
+abbrev pub job_or_end : Next → Result Job SliceEnd
+job_or_end (next.Taken (took.Work job)) = Ok job
+job_or_end (next.Taken (took.Ready leaf)) = Err Ready
+job_or_end (next.Taken took.Done) = Err Done
+job_or_end (next.Taken (took.AllOut leaf)) = Err (AllOut leaf)
+job_or_end (next.Stopped value) = Err (Stopped value)
+job_or_end next.NoMemory = Err NoMemory
+
+-- why a slice ends before all its steps are made
+abbrev pub IsCause : Pass → ℕ → SliceEnd → Type 0
+IsCause new round (Made count) = ⊥
+IsCause new round Ready = ((leaf : ℕ) × IsAskedFor new (took.Ready leaf)) × (new.stop < round)
+IsCause new round Done = IsAskedFor new took.Done × (new.stop < round)
+IsCause new round (AllOut leaf) = IsAskedFor new (took.AllOut leaf) × (new.stop < round)
+IsCause new round (Stopped value) = (new.stop ≡ value) × (round ≤ value)
+IsCause new round NoMemory = new.stop < round
+
+-- a slice took its first leaf, or ends with nothing made
+abbrev pub IsBegun : Pass → Pass → ℕ → Result Job SliceEnd → Type 0
+IsBegun old new round (Ok job) = (new.hand.made ≡ old.hand.made ++ Take old.hand.actor job.leaf ∷ []) × HasOut new job × (new.stop < round)
+IsBegun old new round (Err ended) = (new.hand.made ≡ old.hand.made) × IsCause new round ended
+
+-- The leaf that was out was split, and the next one taken, or none; or it was given back where memory was wanting.
+abbrev pub IsGoneOn : Pass → ℕ → Pass → ℕ → Result Job SliceEnd → Type 0
+IsGoneOn old leaf new round (Ok job) =
+    (by : By) × (learned : List Line) × (new.hand.made ≡ old.hand.made ++ Put old.hand.actor leaf by learned ∷ Take old.hand.actor job.leaf ∷ []) × HasOut new job × (new.stop < round)
+IsGoneOn old leaf new round (Err ended) = (IsEndedBySplit old leaf new ⊎ ((ended ≡ NoMemory) × IsEndedByBack old leaf new)) × IsCause new round ended

@@ -8,12 +8,13 @@ ghost use Rattle.std.specs.Thread.{IsSync};
 ghost use Rattle.resolver_model.specs.Histories.{out_at};
 ghost use Rattle.search_core.specs.Sessions.{IsFor};
 ghost use Rattle.session_cell.specs.Passes.{IsPassOf, HasOut};
-ghost use Rattle.search_thread.specs.Slices.{CanWork, CanTalk, Talker, IsSame, IsOnward, IsWorked, IsTried, EndsAs, IsEndedBySplit, IsEndedByBack};
+ghost use Rattle.search_thread.specs.Slices.{CanWork, CanTalk, Talker, IsSame, IsOnward, IsWorked, IsTried, EndsAs, IsEndedBySplit, IsEndedByBack, job_or_end, IsBegun, IsGoneOn};
 
 use basis::Basis;
 use choice_set::NoMemory;
+use crossbeam_utils::Backoff;
 use search_core::{Job, Taken, expand};
-use session_cell::{Pass, SessionCell};
+use session_cell::{Next, Pass, SessionCell};
 use std::alloc::Global;
 use std::sync::Wait;
 use std::thread;
@@ -127,6 +128,76 @@ pub fn search_one<H: Wait, G: Gate>(
     }
 }
 
+// The job that was taken, or how a slice ends that got none.
+fn job_of(next: Next) -> Result<Job, SliceEnd>
+    ensures { result ≡ job_or_end next }
+{
+    match next {
+        Next::Taken(Taken::Work(job)) => Ok(job),
+        Next::Taken(Taken::Ready { .. }) => Err(SliceEnd::Ready),
+        Next::Taken(Taken::Done) => Err(SliceEnd::Done),
+        Next::Taken(Taken::AllOut { leaf }) => Err(SliceEnd::AllOut { leaf }),
+        Next::Stopped { value } => Err(SliceEnd::Stopped { value }),
+        Next::NoMemory => Err(SliceEnd::NoMemory),
+    }
+}
+
+// Takes the first leaf of a slice, unless its round or a later one was asked to stop.
+fn begin<H: Wait>(
+    rt: &H,
+    alloc: Global,
+    cell: &SessionCell,
+    basis: &Basis,
+    pass: &mut Pass,
+    round: u64,
+) -> Result<Job, SliceEnd>
+    requires cell { IsPassOf cell.now pass.old }
+    requires basis { IsFor cell.now.start basis.now.problem basis.now.table }
+    requires idle { out_at pass.old.hand.actor pass.old.hand.made ≡ None }
+    ensures pass { IsSame pass.old pass.new }
+    ensures begun { IsBegun pass.old pass.new round result }
+{
+    let asked = cell.stop_asked(pass);
+    if asked >= round {
+        return Err(SliceEnd::Stopped { value: asked });
+    }
+    match cell.take(rt, alloc, basis, pass) {
+        Ok(taken) => job_of(Next::Taken(taken)),
+        Err(NoMemory) => Err(SliceEnd::NoMemory),
+    }
+}
+
+// Splits the leaf that is out, and in one turn puts its children in its place and takes the next leaf, unless the round or a later
+// one was asked to stop.
+fn go_on<H: Wait>(
+    rt: &H,
+    alloc: Global,
+    cell: &SessionCell,
+    basis: &Basis,
+    pass: &mut Pass,
+    job: Job,
+    round: u64,
+) -> Result<Job, SliceEnd>
+    requires cell { IsPassOf cell.now pass.old }
+    requires basis { IsFor cell.now.start basis.now.problem basis.now.table }
+    requires job { HasOut pass.old job }
+    requires stop { pass.old.stop < round }
+    ensures pass { IsSame pass.old pass.new }
+    ensures gone { IsGoneOn pass.old job.leaf pass.new round result }
+{
+    let Ok(outcome) = expand(alloc, basis, &job) else {
+        cell.back(rt, pass, job);
+        return Err(SliceEnd::NoMemory);
+    };
+    match cell.put_and_take(rt, alloc, basis, pass, job, outcome, round) {
+        Ok(next) => job_of(next),
+        Err(refused) => {
+            cell.back(rt, pass, refused);
+            Err(SliceEnd::NoMemory)
+        }
+    }
+}
+
 /// Searches: takes a leaf, splits it, puts its children in its place, and so on, up to `most` times. Before each leaf it looks
 /// whether this round or a later one was asked to stop. What it takes it puts, or gives back where memory is wanting.
 pub fn slice<H: Wait, G: Gate>(
@@ -146,20 +217,22 @@ pub fn slice<H: Wait, G: Gate>(
     ensures pass { IsSame pass.old pass.new }
     ensures ended { EndsAs pass.old pass.new round most result }
 {
-    for _ in 0..most {
-        let asked = cell.stop_asked(pass);
-        if asked >= round {
-            return SliceEnd::Stopped { value: asked };
-        }
-        match search_one(rt, alloc, cell, basis, pass, gate) {
-            Tried::Split => {}
-            Tried::Ready => return SliceEnd::Ready,
-            Tried::Done => return SliceEnd::Done,
-            Tried::AllOut { leaf } => return SliceEnd::AllOut { leaf },
-            Tried::NoMemory => return SliceEnd::NoMemory,
+    let mut job = match begin(rt, alloc, cell, basis, pass, round) {
+        Ok(job) => job,
+        Err(end) => return end,
+    };
+    for _ in 1..most {
+        gate.between(pass.actor());
+        match go_on(rt, alloc, cell, basis, pass, job, round) {
+            Ok(next) => job = next,
+            Err(end) => return end,
         }
     }
-    SliceEnd::Made(most)
+    gate.between(pass.actor());
+    match end_job(rt, alloc, cell, basis, pass, job) {
+        Ok(()) => SliceEnd::Made(most),
+        Err(NoMemory) => SliceEnd::NoMemory,
+    }
 }
 
 // A worker's part of a round: slices, until there is nothing more to do, or the round was asked to stop.
@@ -176,10 +249,12 @@ fn work<H: Wait, G: Gate>(
     requires basis { IsFor cell.now.start basis.now.problem basis.now.table }
     ensures { IsWorked pass.old pass.new }
 {
+    let backoff = Backoff::new();
     for _ in rt.forever() {
         match slice(rt, alloc, cell, basis, pass, gate, round, 64) {
-            SliceEnd::Made(_) => {}
-            SliceEnd::AllOut { .. } => {}
+            SliceEnd::Made(_) => backoff.reset(),
+            // its holder needs the turn to put what it is split into
+            SliceEnd::AllOut { .. } => backoff.snooze(),
             SliceEnd::Stopped { .. } => return,
             SliceEnd::Ready => return,
             SliceEnd::Done => return,

@@ -14,7 +14,9 @@ use Rattle.resolver_model.specs.Answers.{Setting}
 use Rattle.resolver_model.specs.Legal.{IsLegal}
 use Rattle.laws_session.specs.Laws.{is_end_by}
 use Rattle.laws_session.proofs.Longer.{IsLegal-front, Follows-at}
+use Rattle.laws_session.proofs.Effects.{out_at-put}
 use Rattle.search_core.specs.Jobs.{IsOut}
+use Rattle.search_core.specs.Ways.{way}
 use Rattle.search_core.specs.Sessions.{Session, IsFor, IsPut}
 use Rattle.search_core.specs.declared.jobs.Job.{Job}
 use Rattle.search_core.specs.declared.jobs.Taken.{Taken}
@@ -25,9 +27,11 @@ use Rattle.search_core.proofs.Legality.{IsOut-kept}
 use Rattle.cell_rule.specs.declared.view.Hand.{Hand}
 use Rattle.cell_rule.specs.declared.view.View.{View}
 use Rattle.cell_rule.specs.Views.{actor_of, entries_by, AreBy, holding, informed, waiting, returned}
-use Rattle.cell_rule.specs.Turns.{Took, HasTurn, MayReturn, session_of, IsStep, Entered, Called}
+use Rattle.cell_rule.specs.Turns.{Took, HasSession, HasTurn, MayReturn, session_of, IsStep, Entered, Called}
 use Rattle.cell_rule.proofs.Basics.{entries_more, own_entries}
-use Rattle.session_cell.specs.Calls.{taken, said, ArePut, put_entry, given_back, WasOut}
+use Rattle.session_cell.specs.declared.next.Next.{Next}
+use Rattle.session_cell.specs.declared.next.Next.TheVariants as next
+use Rattle.session_cell.specs.Calls.{taken, said, ArePut, ArePutAndTaken, next_taken, IsNext, put_entry, given_back, WasOut}
 use Rattle.session_cell.specs.Passes.{Pass, IsTurn}
 
 -- ---- what a call did to the session
@@ -41,6 +45,36 @@ put_step y z job (Ok done) put same back =
     let entry = put_entry y.setting job put.0 in
     (entry ∷ [], subst (IsStep job.actor y (entry ∷ [])) (sym put.1.0) record { setting = refl; history = refl; others = λ other ne k. k }, (put.0, refl, put.1.1))
 put_step y z job (Err refused) put same back = ([], no_step job.actor y z same, (refl, back))
+
+-- no call at all
+pub called_not : (actor : ℕ) (m : Me Session View) → HasSession m → Called actor m [] m
+called_not actor m has = record { view = refl; has = has; step = no_step actor (session_of m) (session_of m) refl }
+
+-- one call after the other
+pub called_more : (actor : ℕ) (m n k : Me Session View) (es fs : History) → Called actor m es n → Called actor n fs k → Called actor m (es ++ fs) k
+called_more actor m n k es fs first second =
+    let s = first.step in
+    let t = second.step in
+    record {
+      view = second.view ∙ first.view;
+      has = second.has;
+      step = record {
+        setting = t.setting ∙ s.setting;
+        history = t.history ∙ (ap (λ (h : History). h ++ fs) s.history ∙ append_assoc (session_of m).history es fs);
+        others = λ other ne kept. t.others other ne (s.others other ne kept);
+      };
+    }
+
+-- behind a put its actor has nothing out
+pub idle_behind : (y z : Session) (job : Job) (entries : History) → ArePut y.setting y.history job (Ok tt) entries → IsStep job.actor y entries z → out_at job.actor z.history ≡ None
+idle_behind y z job entries put step =
+    ap (out_at job.actor) (step.history ∙ ap (λ (es : History). y.history ++ es) put.1) ∙ out_at-put y.history job.actor job.leaf (way y.setting.problem job.node job.choice) put.0
+
+-- a put, and what came behind it
+pub put_and_taken : (y z : Session) (job : Job) (got : Next) (entries : History) → ArePut y.setting y.history job (Ok tt) entries → IsStep job.actor y entries z → IsNext z.setting z.history job.actor got
+    → ArePutAndTaken y.setting y.history job (Ok got) (entries ++ next_taken job.actor got)
+put_and_taken y z job got entries put step right =
+    (entries, put, refl, subst (λ (x : Setting × History). IsNext x.0 x.1 job.actor got) (λ i. (step.setting i, step.history i)) right)
 
 -- ---- whose entries a call adds
 
@@ -59,6 +93,20 @@ taken_by actor (Err e) = tt
 pub put_by : (s : Setting) (before : History) (job : Job) (r : Result (Unit {0}) Job) (entries : History) → ArePut s before job r entries → AreBy job.actor entries
 put_by s before job (Ok done) entries put = subst (AreBy job.actor) (sym put.1) (refl, tt)
 put_by s before job (Err refused) entries put = subst (AreBy job.actor) (sym put.0) tt
+
+by_append : (actor : ℕ) (es fs : History) → AreBy actor es → AreBy actor fs → AreBy actor (es ++ fs)
+by_append actor [] fs p q = q
+by_append actor (e ∷ es) fs p q = (p.0, by_append actor es fs p.1 q)
+
+next_by : (actor : ℕ) (got : Next) → AreBy actor (next_taken actor got)
+next_by actor (next.Taken answer) = taken_by actor (Ok answer)
+next_by actor (next.Stopped value) = tt
+next_by actor next.NoMemory = tt
+
+pub put_and_taken_by : (s : Setting) (before : History) (job : Job) (r : Result Next Job) (entries : History) → ArePutAndTaken s before job r entries → AreBy job.actor entries
+put_and_taken_by s before job (Ok got) entries put =
+    subst (AreBy job.actor) (sym put.2) (by_append job.actor put.0 (next_taken job.actor got) (put_by s before job (Ok tt) put.0 put.1) (next_by job.actor got))
+put_and_taken_by s before job (Err refused) entries put = put_by s before job (Err refused) entries put
 
 pub back_by : (job : Job) → AreBy job.actor (given_back job)
 back_by job = (refl, tt)

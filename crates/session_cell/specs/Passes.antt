@@ -13,6 +13,8 @@ use Rattle.cell_rule.specs.declared.view.Hand.{Hand}
 use Rattle.cell_rule.specs.declared.stop.StopHand.{StopHand}
 use Rattle.cell_rule.specs.Stops.{stop_hand}
 use Rattle.cell_rule.specs.Views.{newcomer, stands, entries_by}
+use Rattle.session_cell.specs.declared.next.Next.{Next}
+use Rattle.session_cell.specs.declared.next.Next.TheVariants as next
 
 -- which tables it has, and the session at the start
 pub record Cell : Type 0 where
@@ -39,6 +41,15 @@ HasOut pass job = (job.actor ≡ pass.hand.actor) × IsOut pass.hand.start.setti
 abbrev pub HasTaken : Pass → Taken → Type 0
 HasTaken pass (Work job) = HasOut pass job
 HasTaken pass _ = ⊤
+
+-- a job that came after a put is out
+abbrev pub HasNext : Pass → Next → Type 0
+HasNext pass (next.Taken answer) = HasTaken pass answer
+HasNext pass _ = ⊤
+
+-- the pass knows of this round that was asked to stop
+abbrev pub knowing : Pass → ℕ → Pass
+knowing pass stop = record pass { stop = stop }
 
 -- After a call that added these entries behind `before`, the pass has seen a legal history, which begins with what it had
 -- seen and ends with them, and has made them each once.

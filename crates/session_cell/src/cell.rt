@@ -5,12 +5,14 @@ ghost use Rattle.resolver_model.specs.Answers.{NamesChoice};
 ghost use Rattle.search_core.specs.Jobs.{outcome_of};
 ghost use Rattle.search_core.specs.Sessions.{IsFor, IsTaken, IsAnswer, needs_no_memory};
 ghost use Rattle.cell_rule.specs.Views.{Each};
-ghost use Rattle.session_cell.specs.Calls.{taken, said, ArePut, given_back};
-ghost use Rattle.session_cell.specs.Passes.{IsPassOf, IsTurn, HasOut, HasTaken, passes_below, hands_of, ArePassesOf, HasAll, Holds, AreStops};
+ghost use Rattle.session_cell.specs.Calls.{taken, said, ArePut, ArePutAndTaken, HeedsStop, given_back};
+ghost use Rattle.session_cell.specs.Passes.{IsPassOf, IsTurn, HasOut, HasTaken, HasNext, knowing, passes_below, hands_of, ArePassesOf, HasAll, Holds, AreStops};
 
 use crate::inside::{
-    answer_inside, back_inside, enter, leave, put_inside, reserve_inside, take_inside,
+    answer_inside, back_inside, enter, leave, put_and_take_inside, put_inside, reserve_inside,
+    take_inside,
 };
+use crate::next::Next;
 use crate::pass::{Pass, deal, gather, lay, release_first};
 use crate::stopping::{close_stop, lay_stop, load_stop, set_stop};
 use basis::Basis;
@@ -140,6 +142,48 @@ impl SessionCell {
     {
         enter(rt, &self.turn, &mut pass.seat);
         let (put, count) = put_inside(&self.turn, &mut pass.seat, alloc, basis, job, outcome);
+        leave(&self.turn, &mut pass.seat, count);
+        put
+    }
+
+    /// Puts a job as `put` does, and then takes the next leaf for the same actor as `take` does, in one turn; no leaf is taken where
+    /// this round or a later one was asked to stop. After want of memory for the put the job comes back, is still out, and no leaf
+    /// is taken; after want of memory for the next leaf the put stands.
+    pub fn put_and_take<H: Wait>(
+        &self,
+        rt: &H,
+        alloc: Global,
+        basis: &Basis,
+        pass: &mut Pass,
+        job: Job,
+        outcome: Outcome,
+        round: u64,
+    ) -> Result<Next, Job>
+        requires cell { IsPassOf self.now pass.old }
+        requires basis { IsFor self.now.start basis.now.problem basis.now.table }
+        requires job { HasOut pass.old job }
+        requires outcome { outcome ≡ outcome_of basis.now.problem basis.now.table job }
+        ensures turn { (before : History) × (entries : History) × IsTurn (knowing pass.old pass.new.stop) before entries pass.new × ArePutAndTaken pass.old.hand.start.setting before job result entries }
+        ensures heeds { IfOk result (HeedsStop round pass.new.stop) }
+        ensures unheard { OnErr result (pass.new.stop ≡ pass.old.stop) }
+        ensures later { pass.old.stop ≤ pass.new.stop }
+        ensures own { pass.old.hand.actor ≡ 0 → pass.new.stop ≡ pass.old.stop }
+        ensures out { OnErr result (HasOut pass.new job) }
+        ensures next { IfOk result (HasNext pass.new) }
+        ensures room { pass.old.hand.reserved ≡ true → pass.new.hand.reserved ≡ true }
+    {
+        enter(rt, &self.turn, &mut pass.seat);
+        let (put, count) = put_and_take_inside(
+            &self.turn,
+            &self.stop,
+            &mut pass.seat,
+            &mut pass.stop,
+            alloc,
+            basis,
+            job,
+            outcome,
+            round,
+        );
         leave(&self.turn, &mut pass.seat, count);
         put
     }

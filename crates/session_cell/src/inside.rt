@@ -1,5 +1,5 @@
 // The turn, and the session's calls while a seat has it.
-ghost use Rattle.std.specs.Prelude.{◌≡◌, ◌^◌, ◌<◌, ◌*◌, ◌∷◌, [], List, Bool, true, ℕ, length, IfOk, IfErr, OnOk, OnErr, IsTrue, IsOk, None};
+ghost use Rattle.std.specs.Prelude.{◌≡◌, ◌^◌, ◌<◌, ◌≤◌, ◌*◌, ◌∷◌, [], List, Bool, true, ℕ, length, IfOk, IfErr, OnOk, OnErr, IsTrue, IsOk, None};
 ghost use Rattle.resolver_model.specs.Histories.{History, out_at};
 ghost use Rattle.resolver_model.specs.Answers.{NamesChoice};
 ghost use Rattle.resolver_model.specs.Legal.{IsLegal, IsSetting};
@@ -7,10 +7,14 @@ ghost use Rattle.search_core.specs.Jobs.{IsOut, outcome_of};
 ghost use Rattle.search_core.specs.Sessions.{Session, IsFor, IsTaken, IsJobOut, IsAnswer, needs_no_memory};
 ghost use Rattle.cell_rule.specs.Views.{waiting, holding, informed, returned, IsKeptFor};
 ghost use Rattle.cell_rule.specs.Turns.{Took, HasSession, HasTurn, MayReturn, session_of, Called};
-ghost use Rattle.session_cell.specs.Calls.{taken, said, ArePut, given_back, WasOut};
+ghost use Rattle.cell_rule.specs.Stops.{stop_view};
+ghost use Rattle.session_cell.specs.Calls.{taken, said, ArePut, ArePutAndTaken, next_taken, IsNext, IsNextOut, HeedsStop, given_back, WasOut};
 
+use crate::next::Next;
+use crate::stopping::load_stop;
 use basis::Basis;
 use cell_rule::rule::{Claim, Release, TurnSeat, TurnTable};
+use cell_rule::stop::{StopSeat, StopTable};
 use choice_set::NoMemory;
 use crossbeam_utils::Backoff;
 use resolver_model::Command;
@@ -128,6 +132,98 @@ pub(crate) fn put_inside(
     let put = session.put(alloc, basis, job, outcome);
     let count = count_entries(session);
     (put, count)
+}
+
+// `take` on the session in hands, unless this round or a later one was asked to stop.
+fn next_inside(
+    turn: &TurnTable,
+    stop: &StopTable,
+    seat: &mut TurnSeat,
+    stop_seat: &mut StopSeat,
+    alloc: Global,
+    basis: &Basis,
+    actor: u32,
+    round: u64,
+    count: u64,
+) -> (Next, u64)
+    requires table { seat.old.table_id ≡ turn.now.shared.table_id }
+    requires session { HasSession seat.old.me }
+    requires basis { IsFor (session_of seat.old.me) basis.now.problem basis.now.table }
+    requires actor { actor < (session_of seat.old.me).setting.actors }
+    requires idle { out_at actor (session_of seat.old.me).history ≡ None }
+    requires count { (count ≡ length (session_of seat.old.me).history) × (count < 2 ^ 63) }
+    requires legal { IsLegal (session_of seat.old.me).setting (session_of seat.old.me).history }
+    requires stops { (stop_seat.old.table_id ≡ stop.now.shared.table_id) × (stop.now.shared.table_id.words ≡ 1) }
+    requires single { stop_seat.old.me ≡ (stop_view stop_seat.old.me.0.own.value stop_seat.old.me.0.own.marked, []) }
+    ensures seat { seat.new.table_id ≡ seat.old.table_id }
+    ensures called { Called actor seat.old.me (next_taken actor result.0) seat.new.me }
+    ensures kept { (session_of seat.new.me).rooms ≡ (session_of seat.old.me).rooms }
+    ensures answer { IsNext (session_of seat.old.me).setting (session_of seat.old.me).history actor result.0 }
+    ensures out { IsNextOut (session_of seat.new.me) result.0 }
+    ensures count { (result.1 ≡ length (session_of seat.new.me).history) × (result.1 < 2 ^ 63) }
+    ensures legal { IsLegal (session_of seat.new.me).setting (session_of seat.new.me).history }
+    ensures stops { stop_seat.new.table_id ≡ stop_seat.old.table_id }
+    ensures single { stop_seat.new.me ≡ (stop_view stop_seat.new.me.0.own.value stop_seat.old.me.0.own.marked, []) }
+    ensures heeds { HeedsStop round stop_seat.new.me.0.own.value result.0 }
+    ensures later { stop_seat.old.me.0.own.value ≤ stop_seat.new.me.0.own.value }
+    ensures marked { stop_seat.old.me.0.own.marked ≡ true → stop_seat.new.me.0.own.value ≡ stop_seat.old.me.0.own.value }
+{
+    let asked = load_stop(stop, stop_seat);
+    if asked >= round {
+        return (Next::Stopped { value: asked }, count);
+    }
+    let (taken, count) = take_inside(turn, seat, alloc, basis, actor);
+    match taken {
+        Ok(taken) => (Next::Taken(taken), count),
+        Err(NoMemory) => (Next::NoMemory, count),
+    }
+}
+
+// `put` on the session in hands, and then `take`, unless this round or a later one was asked to stop.
+pub(crate) fn put_and_take_inside(
+    turn: &TurnTable,
+    stop: &StopTable,
+    seat: &mut TurnSeat,
+    stop_seat: &mut StopSeat,
+    alloc: Global,
+    basis: &Basis,
+    job: Job,
+    outcome: Outcome,
+    round: u64,
+) -> (Result<Next, Job>, u64)
+    requires table { seat.old.table_id ≡ turn.now.shared.table_id }
+    requires session { HasSession seat.old.me }
+    requires basis { IsFor (session_of seat.old.me) basis.now.problem basis.now.table }
+    requires job { WasOut (session_of seat.old.me).setting (session_of seat.old.me).history job }
+    requires actor { job.actor < (session_of seat.old.me).setting.actors }
+    requires outcome { outcome ≡ outcome_of basis.now.problem basis.now.table job }
+    requires stops { (stop_seat.old.table_id ≡ stop.now.shared.table_id) × (stop.now.shared.table_id.words ≡ 1) }
+    requires single { stop_seat.old.me ≡ (stop_view stop_seat.old.me.0.own.value stop_seat.old.me.0.own.marked, []) }
+    ensures seat { seat.new.table_id ≡ seat.old.table_id }
+    ensures called { (entries : History) × Called job.actor seat.old.me entries seat.new.me × ArePutAndTaken (session_of seat.old.me).setting (session_of seat.old.me).history job result.0 entries }
+    ensures kept { (session_of seat.new.me).rooms ≡ (session_of seat.old.me).rooms }
+    ensures out { OnErr result.0 (IsOut (session_of seat.new.me).setting (session_of seat.new.me).history job) }
+    ensures next { IfOk result.0 (IsNextOut (session_of seat.new.me)) }
+    ensures count { (result.1 ≡ length (session_of seat.new.me).history) × (result.1 < 2 ^ 63) }
+    ensures legal { IsLegal (session_of seat.new.me).setting (session_of seat.new.me).history }
+    ensures stops { stop_seat.new.table_id ≡ stop_seat.old.table_id }
+    ensures single { stop_seat.new.me ≡ (stop_view stop_seat.new.me.0.own.value stop_seat.old.me.0.own.marked, []) }
+    ensures heeds { IfOk result.0 (HeedsStop round stop_seat.new.me.0.own.value) }
+    ensures unheard { OnErr result.0 (stop_seat.new.me ≡ stop_seat.old.me) }
+    ensures later { stop_seat.old.me.0.own.value ≤ stop_seat.new.me.0.own.value }
+    ensures marked { stop_seat.old.me.0.own.marked ≡ true → stop_seat.new.me.0.own.value ≡ stop_seat.old.me.0.own.value }
+{
+    let actor = job.actor;
+    let (put, count) = put_inside(turn, seat, alloc, basis, job, outcome);
+    match put {
+        Ok(()) => {
+            let (next, count) = next_inside(
+                turn, stop, seat, stop_seat, alloc, basis, actor, round, count,
+            );
+            (Ok(next), count)
+        }
+        Err(job) => (Err(job), count),
+    }
 }
 
 // `back` on the session in hands.

@@ -3,8 +3,10 @@
 
 mod cell;
 mod inside;
+mod next;
 mod pass;
 mod stopping;
 
 pub use cell::SessionCell;
+pub use next::Next;
 pub use pass::Pass;
