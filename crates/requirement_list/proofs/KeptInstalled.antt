@@ -1,19 +1,20 @@
 -- How the installed versions are kept, one after another.
-use Rattle.std.proofs.Common.{◌≡◌, ◌<◌, ◌≤◌, ◌+◌, ◌∙◌, ℕ, List, [], ◌∷◌, ◌++◌, Bool, true, false, ◌&&◌, ◌||◌, cond, map, length, get_or, take, refl, sym, ap, subst, arith, not}
-use Rattle.std.specs.List.{filter, list_any}
+use Rattle.std.proofs.Common.{◌≡◌, ◌<◌, ◌≤◌, ◌+◌, ◌∙◌, ℕ, List, [], ◌∷◌, ◌++◌, Bool, true, false, ◌&&◌, ◌||◌, cond, map, length, get_or, take, refl, sym, ap, subst, arith, not, Option, Some, None}
+use Rattle.std.specs.List.{filter, list_any, list_all}
+use Rattle.std.specs.Option.{is_some}
 use Rattle.std.proofs.Math.Bool.{or-false}
 use Rattle.std.proofs.lemmas.List.{take_all, take_more, map_push, length-map, length-take-le}
-use Rattle.std.proofs.lemmas.List.Folds.{list_any-append}
+use Rattle.std.proofs.lemmas.List.Folds.{list_any-append, list_all-append}
 use Rattle.lists.specs.Sets.{has}
 use Rattle.universe_model.specs.Lists.{number_in, numbers_of}
-use Rattle.universe_model.specs.Versions.{Version}
-use Rattle.universe_model.specs.Meeting.{meets_any}
+use Rattle.universe_model.specs.Versions.{Version, is_release_with}
+use Rattle.universe_model.specs.Meeting.{meets, meets_any, meets_by_name, meets_by_provides, is_plain}
 use Rattle.universe_model.specs.Dependencies.{Setting, Requirement, recommended, is_broken_now}
 use Rattle.dep_fields.specs.Relationships.{Relationship}
 use Rattle.meeting_index.specs.Indexes.{Indexed}
 use Rattle.meeting_index.specs.Numbers.{numbers_from}
 use Rattle.meeting_index.proofs.Numbers.{numbers_from-append}
-use Rattle.requirement_list.specs.Installed.{AreInstalled, HasInstalled}
+use Rattle.requirement_list.specs.Installed.{is_read, PassesNoAbsent, AreInstalled, HasInstalled}
 use Rattle.requirement_list.specs.declared.Indexes.{Indexes}
 
 one_number : {A : Type 0} (h : ℕ → Bool) (n : ℕ) (test : A → Bool) (x : A) → list_any h (numbers_from n test (x ∷ [])) ≡ (test x && h n)
@@ -51,30 +52,69 @@ and-false : (b : Bool) → (b && false) ≡ false
 and-false true = refl
 and-false false = refl
 
+none_read : {A : Type 0} (o : Option A) → is_some o ≡ false → o ≡ None
+none_read None h = refl
+none_read (Some x) h = absurd (cc)
+
+both-true : (a b : Bool) → (a && b) ≡ true → (a ≡ true) × (b ≡ true)
+both-true true true h = (refl, refl)
+both-true true false h = absurd (cc)
+both-true false b h = absurd (cc)
+
+-- a version that is not kept adds nothing
+nothing_added : (test : Version → Bool) → PassesNoAbsent test → (v : Version) (b : Bool) → (is_read v && b) ≡ false → (test v && b) ≡ false
+nothing_added test none v b out =
+    elim (is_some v.release) as (λ r. is_some v.release ≡ r → (r && b) ≡ false → (test v && b) ≡ false) [
+      | true ↦ λ _ h. ap (λ k. test v && k) h ∙ and-false (test v)
+      | false ↦ λ e _. ap (λ k. k && b) (none v (none_read v.release e))
+    ] refl out
+
 -- an installed version is kept
-pub kept_more : {A : Type 0} (starts : List ℕ) (f : A → Version) (xs ks : List A) (n : ℕ) (x : A) → n < length xs → x ≡ get_or xs n x → has starts n ≡ true
+pub kept_more : {A : Type 0} (starts : List ℕ) (f : A → Version) (xs ks : List A) (n : ℕ) (x : A) → n < length xs → x ≡ get_or xs n x → (is_read (f x) && has starts n) ≡ true
     → AreInstalled starts (map f (take n xs)) (map f ks) → AreInstalled starts (map f (take (n + 1) xs)) (map f (ks ++ x ∷ []))
-kept_more starts f xs ks n x lt e there h test =
-    ap (list_any test) (map_push f ks x)
-    ∙ list_any-append test (map f ks) (f x ∷ [])
-    ∙ ap (λ b. list_any test (map f ks) || b) (or-false (test (f x)))
-    ∙ ap (λ b. b || test (f x)) (h test)
-    ∙ ap (λ b. list_any (has starts) (numbers_of test (map f (take n xs))) || b) (sym (ap (λ b. test (f x) && b) there ∙ and-true (test (f x))))
-    ∙ sym (any_next (has starts) test f xs n x lt e)
+kept_more starts f xs ks n x lt e both h =
+    let parts = both-true (is_read (f x)) (has starts n) both in
+    record {
+      there = ap (list_all is_read) (map_push f ks x)
+          ∙ list_all-append is_read (map f ks) (f x ∷ [])
+          ∙ ap (λ b. b && (is_read (f x) && true)) h.there
+          ∙ ap (λ b. b && true) parts.0;
+      passes = λ test none.
+          ap (list_any test) (map_push f ks x)
+          ∙ list_any-append test (map f ks) (f x ∷ [])
+          ∙ ap (λ b. list_any test (map f ks) || b) (or-false (test (f x)))
+          ∙ ap (λ b. b || test (f x)) (h.passes test none)
+          ∙ ap (λ b. list_any (has starts) (numbers_of test (map f (take n xs))) || b) (sym (ap (λ b. test (f x) && b) parts.1 ∙ and-true (test (f x))))
+          ∙ sym (any_next (has starts) test f xs n x lt e);
+    }
 
 -- another is not
-pub kept_same : {A : Type 0} (starts : List ℕ) (f : A → Version) (xs ks : List A) (n : ℕ) (x : A) → n < length xs → x ≡ get_or xs n x → has starts n ≡ false
+pub kept_same : {A : Type 0} (starts : List ℕ) (f : A → Version) (xs ks : List A) (n : ℕ) (x : A) → n < length xs → x ≡ get_or xs n x → (is_read (f x) && has starts n) ≡ false
     → AreInstalled starts (map f (take n xs)) (map f ks) → AreInstalled starts (map f (take (n + 1) xs)) (map f ks)
-kept_same starts f xs ks n x lt e out h test =
-    h test
-    ∙ sym (or-false (list_any (has starts) (numbers_of test (map f (take n xs)))))
-    ∙ ap (λ b. list_any (has starts) (numbers_of test (map f (take n xs))) || b) (sym (ap (λ b. test (f x) && b) out ∙ and-false (test (f x))))
-    ∙ sym (any_next (has starts) test f xs n x lt e)
+kept_same starts f xs ks n x lt e out h = record {
+  there = h.there;
+  passes = λ test none.
+      h.passes test none
+      ∙ sym (or-false (list_any (has starts) (numbers_of test (map f (take n xs)))))
+      ∙ ap (λ b. list_any (has starts) (numbers_of test (map f (take n xs))) || b) (sym (nothing_added test none (f x) (has starts n) out))
+      ∙ sym (any_next (has starts) test f xs n x lt e);
+}
 
 -- at the end all versions were passed
 pub kept_whole : {A : Type 0} (starts : List ℕ) (f : A → Version) (xs ks : List A) (n : ℕ) → length xs ≤ n
     → AreInstalled starts (map f (take n xs)) (map f ks) → AreInstalled starts (map f xs) (map f ks)
 kept_whole starts f xs ks n le h = let P : List Version → Type 0 = λ vs. AreInstalled starts vs (map f ks) in subst P (ap (map f) (take_all n xs le)) h
+
+-- ---- what is absent meets no item
+
+absent_meets : (native : List ℕ) (item : Relationship) → PassesNoAbsent (meets native item)
+absent_meets native item v e =
+    ap (λ o. is_plain native item.arch && is_release_with (λ release. meets_by_name item v.name release || meets_by_provides native item release) o) e
+    ∙ and-false (is_plain native item.arch)
+
+pub absent_meets_none : (native : List ℕ) (group : List Relationship) → PassesNoAbsent (meets_any native group)
+absent_meets_none native [] v e = refl
+absent_meets_none native (item ∷ group) v e = ap (λ b. b || meets_any native group v) (absent_meets native item v e) ∙ absent_meets_none native group v e
 
 -- ---- whether a group of Recommends is broken now
 
@@ -87,8 +127,12 @@ pub broken_now : (starts : List ℕ) (indexes : Indexes) (source place : ℕ) (g
     ≡ is_broken_now (setting_now indexes.all starts) (recommended (setting_now indexes.all starts) source place group)
 broken_now starts indexes source place group h =
     ap (λ b. has starts source && not b)
-    (ap (λ native. list_any (meets_any native group) indexes.installed.versions) h.native ∙ h.versions (meets_any indexes.all.native group))
+    (ap (λ native. list_any (meets_any native group) indexes.installed.versions) h.native ∙ h.versions.passes (meets_any indexes.all.native group) (absent_meets_none indexes.all.native group))
 
 -- one that is not broken counts
 pub unbroken_counts : (s : Setting) (r : Requirement) → is_broken_now s r ≡ false → filter (λ d. not (is_broken_now s d)) (r ∷ []) ≡ r ∷ []
 unbroken_counts s r e = ap (λ b. cond (not b) (r ∷ []) []) e
+
+-- one that is broken does not
+pub broken_goes : (s : Setting) (r : Requirement) → is_broken_now s r ≡ true → filter (λ d. not (is_broken_now s d)) (r ∷ []) ≡ []
+broken_goes s r e = ap (λ b. cond (not b) (r ∷ []) []) e

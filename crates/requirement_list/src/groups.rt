@@ -1,17 +1,15 @@
 //! The dependencies of the groups of a field: of Pre-Depends and Depends, and of Recommends (Debian Policy 7.2).
 
-ghost use Rattle.std.specs.Prelude.{◌≡◌, ◌<◌, ◌+◌, ◌∷◌, [], map, length, not, ◌&&◌, MatchResult};
-ghost use Rattle.std.specs.List.{filter, list_any};
-ghost use Rattle.lists.specs.Sets.{has};
+ghost use Rattle.std.specs.Prelude.{◌≡◌, ◌<◌, ◌+◌, ℕ, ◌∷◌, [], map, length, not, MatchResult};
+ghost use Rattle.std.specs.List.{filter};
 ghost use Rattle.resolver_model.specs.Problems.{version_count};
 ghost use Rattle.dep_fields.specs.Checked.{alternatives_groups};
 ghost use Rattle.dep_fields.specs.Views.{group_items};
 ghost use Rattle.universe_model.specs.Dependencies.{of_group, recommended, is_broken_now, of_recommends};
-ghost use Rattle.requirement_list.specs.Settings.{owners_of, setting_of, AreTargets};
+ghost use Rattle.requirement_list.specs.Settings.{owners_of, setting_in, setting_of, AreTargets};
 ghost use Rattle.universe_model.specs.declared.BuildEnd.TheVariants.{NoMemory};
 ghost use Rattle.requirement_list.specs.Collecting.{Adds};
 ghost use Rattle.requirement_list.specs.Installed.{HasInstalled};
-ghost use Rattle.universe_model.specs.Meeting.{meets_any};
 
 use crate::Indexes;
 use crate::collected::{Collected, Field};
@@ -73,15 +71,17 @@ pub fn add_groups<'a>(
 // Whether the dependency of a group is broken in the installed state: its source is installed, and no installed version meets
 // one of its items.
 fn is_broken<'a>(
-    installed: &MeetingIndex<'_, 'a>,
+    indexes: &Indexes<'_, '_, 'a>,
     problem: &Parts,
     source: u32,
     group: &Group<'a>,
 ) -> bool
-    requires { source < version_count problem.now }
-    ensures { result ≡ (has problem.now.starts source && not (list_any (meets_any installed.now.native (group_items group.now)) installed.now.versions)) }
+    requires installed { HasInstalled problem.now.starts indexes.now }
+    requires source { source < version_count problem.now }
+    ensures { let s = setting_in indexes.now.all problem.now in
+        (place : ℕ) → result ≡ is_broken_now s (recommended s source place (group_items group.now)) }
 {
-    is_installed(problem, source) && !installed.has_target(group)
+    is_installed(problem, source) && !indexes.installed.has_target(group)
 }
 
 // Adds the dependency of a group of Recommends, unless it is broken in the installed state. Its targets are listed only where
@@ -101,7 +101,7 @@ fn add_recommended<'a>(
         Adds (filter (λ r. not (is_broken_now s r)) (recommended s source place (group_items group.now) ∷ [])) collected.old result collected.new }
 {
     let problem = collected.builder.parts();
-    if is_broken(&indexes.installed, problem, source, group) {
+    if is_broken(indexes, problem, source, group) {
         return Ok(());
     }
     if collected.past {
