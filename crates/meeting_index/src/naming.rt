@@ -39,7 +39,7 @@ pub fn name_carriers<'n, 'a>(
     Ok(named)
 }
 
-// Names each version by its package, under its number.
+// Names each version by its package, under its number. The names are mostly those of the packages, by their numbers.
 fn name_versions<'a>(
     names: &Names,
     rows: &mut Vec<NumberRow<'a>>,
@@ -53,7 +53,8 @@ fn name_versions<'a>(
 {
     let mut number = 0;
     for version in versions {
-        add_number(names, rows, others, version.name, number)?;
+        let guess = Some(version.package as usize);
+        add_number(names, rows, others, version.name, guess, number)?;
         number += 1;
     }
     Ok(())
@@ -73,7 +74,7 @@ fn name_provided<'a>(
 {
     let mut number = first;
     for item in provided {
-        add_number(names, rows, others, item.name, number)?;
+        add_number(names, rows, others, item.name, None, number)?;
         number = next_number(number)?;
     }
     Ok(())

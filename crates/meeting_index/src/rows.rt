@@ -1,7 +1,7 @@
 // Numbers that are found by a name, which a package may have.
 
 ghost use Rattle.std.specs.Prelude.{◌≡◌, ◌++◌, ◌∷◌, [], ℕ, List, Bool, map, length, replicate, if◌then◌else◌, IfOk, OnOk};
-ghost use Rattle.std.specs.List.{list_any};
+ghost use Rattle.std.specs.List.{list_any, position};
 ghost use Rattle.ascii.specs.Texts.{is_same};
 ghost use Rattle.meeting_index.specs.Named.{numbers_in};
 ghost use Rattle.meeting_index.specs.Rows.{AreRows, numbers_by, row_numbers};
@@ -92,19 +92,30 @@ pub fn empty_rows<'a>(alloc: Global, count: usize) -> Result<Vec<NumberRow<'a>>,
     Ok(rows)
 }
 
-/// Adds a number at a name.
+// The place of a name among the names, at which it may have been guessed to be.
+fn place_of(names: &Names, bytes: &[u8], guess: Option<usize>) -> Option<usize>
+    ensures { result ≡ position (is_same bytes.now) names.now }
+{
+    match guess {
+        Some(guess) => names.number_near(bytes, guess),
+        None => names.number_of(bytes),
+    }
+}
+
+/// Adds a number at a name. The guess is where among the names it may stand.
 pub fn add_number<'a>(
     names: &Names,
     rows: &mut Vec<NumberRow<'a>>,
     others: &mut Vec<Named<'a>>,
     bytes: &'a [u8],
+    guess: Option<usize>,
     number: u32,
 ) -> Result<(), NoMemory>
     requires { AreRows names.now rows.old.items }
     ensures rows { OnOk result (AreRows names.now rows.new.items) }
     ensures added { OnOk result ((other : Name) → numbers_by names.now rows.new.items (numbers_in others.new.items other.bytes.now) other.bytes.now ≡ numbers_by names.now rows.old.items (numbers_in others.old.items other.bytes.now) other.bytes.now ++ (if is_same bytes.now other.bytes.now then number ∷ [] else [])) }
 {
-    let Some(place) = names.number_of(bytes) else {
+    let Some(place) = place_of(names, bytes, guess) else {
         return add_other(others, bytes, number);
     };
     add_to_row(&mut rows[place], bytes, number)?;

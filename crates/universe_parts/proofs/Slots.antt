@@ -6,6 +6,7 @@ use Rattle.std.specs.List.{position}
 use Rattle.std.specs.Map.{lookup}
 use Rattle.std.proofs.lemmas.Bool.{cases_lt, eqb-true, eqb-false, false_from_ne_true, ne_eqb}
 use Rattle.std.proofs.lemmas.Bool.Decides.{nat_tests}
+use Rattle.std.proofs.lemmas.Cmp.{nat_list_eq_equiv}
 use Rattle.std.proofs.lemmas.Grind.{get_or_default_zero}
 use Rattle.std.proofs.lemmas.List.{get_or-replicate, get_or-set_same, get_or-set_other, get_or_past, get_or_push, get_or_append_left, length-replicate, length_push}
 use Rattle.ascii.specs.Texts.{is_same}
@@ -37,6 +38,23 @@ apart-more : (names : List (List ℕ)) (name new : List ℕ) (n : ℕ) (same : B
     → position (is_same name) names ≡ Some n → position (is_same name) (names ++ new ∷ []) ≡ Some n
 apart-more names name new n true none e there = let wrong : None ≡ Some n = sym (same-none names name new none e) ∙ there in absurd (cc)
 apart-more names name new n false none e there = push-apart names name new none e ∙ there
+
+-- each name of the list stands there once, also when there is one more
+own-cases : (names : List (List ℕ)) (new : List ℕ) → position (is_same new) names ≡ None → ((n : ℕ) → n < length names → position (is_same (get_or names n [])) names ≡ Some n)
+    → (n : ℕ) (b : Bool) → nat_eq n (length names) ≡ b → n < length (names ++ new ∷ []) → position (is_same (get_or (names ++ new ∷ []) n [])) (names ++ new ∷ []) ≡ Some n
+own-cases names new none own n true e within =
+    let last : n ≡ length names = eqb-true n (length names) e in
+    ap (λ (bytes : List ℕ). position (is_same bytes) (names ++ new ∷ [])) (get_or_push names new [] n (sym last))
+    ∙ position-push new new names none
+    ∙ ap (λ b. cond b (Some (length names)) (position (is_same new) names)) (nat_list_eq_equiv.refl new)
+    ∙ ap (λ (k : ℕ). Some k) (sym last)
+own-cases names new none own n false e within =
+    let apart = eqb-false n (length names) e in
+    let long = length_push names new in
+    let less : n < length names = omega arith in
+    let name = get_or names n [] in
+    ap (λ (bytes : List ℕ). position (is_same bytes) (names ++ new ∷ [])) (get_or_append_left names (new ∷ []) [] n less)
+    ∙ apart-more names name new n (is_same name new) none refl (own n less)
 
 found-none : (found there : Option ℕ) → None ≡ there → ((n : ℕ) → found ≡ Some n → there ≡ Some n) → found ≡ there
 found-none None there none apart = none
@@ -108,6 +126,7 @@ module _ (names : List (List ℕ)) (slots : List ℕ) (others : List (Vec ℕ ×
     at = λ name. put-at free room name (nat_eq (share_of name) (share_of new)) refl;
     within = λ name. put-within room name (nat_eq (share_of name) (share_of new)) refl;
     apart = λ name n found. apart-more names name new n (is_same name new) none refl (old.apart name n found);
+    own = λ n. own-cases names new none old.own n (nat_eq n (length names)) refl;
   }
 
   -- ---- among the others
@@ -146,6 +165,7 @@ module _ (names : List (List ℕ)) (slots : List ℕ) (others : List (Vec ℕ ×
     at = λ name. other-at key name (first_in (slot_at slots name)) is (free-same name taken) (old.within name) (old.at name);
     within = λ name n found. less-more names new n (old.within name n found);
     apart = λ name n found. other-apart name n (is_same name new) refl (sym (inserted key name is) ∙ found);
+    own = λ n. own-cases names new none old.own n (nat_eq n (length names)) refl;
   }
 
 -- ---- no names
@@ -159,6 +179,7 @@ numbered-none n = record {
   at = λ name. ap (λ (slot : ℕ). number_from [] [] name (first_in slot)) (empty-slots n (share_of name));
   within = λ name k found. let wrong : None ≡ Some k = sym (ap first_in (empty-slots n (share_of name))) ∙ found in absurd (cc);
   apart = λ name k found. found;
+  own = λ n within. absurd (omega (arith, within));
 }
 
 -- ---- what is found
@@ -184,3 +205,9 @@ module _ (names : List (List ℕ)) (slots : List ℕ) (others : List (Vec ℕ ×
       ap (λ b. cond b (Some first) (lookup (is_key name) others)) (e ∙ ap (is_same name) there)
       ∙ ap (number_from names others name) (sym (slot-read share slot first number sized range is read gives some))
       ∙ numbered.at name
+
+-- a name that stands at a place has its number
+pub found-near : (names : List (List ℕ)) (slots : List ℕ) (others : List (Vec ℕ × ℕ)) (name text : List ℕ) (place : ℕ) (same : Bool) → AreNumbered names slots others
+    → place < length names → text ≡ get_or names place [] → same ≡ is_same name text → same ≡ true → Some place ≡ position (is_same name) names
+found-near names slots others name text place same numbered within there e hit =
+    sym (ap (λ (bytes : List ℕ). position (is_same bytes) names) (same-bytes name text (sym e ∙ hit) ∙ there) ∙ numbered.own place within)

@@ -32,8 +32,9 @@ number_from names others name (Some first) = if is_same name (slice_index_or nam
 abbrev pub number_in : List (List ℕ) → List ℕ → List (Vec ℕ × ℕ) → List ℕ → Option ℕ
 number_in names slots others name = number_from names others name (first_in (slot_at slots name))
 
--- each name is found with its number, if it has one
+-- each name is found with its number, if it has one, and no name stands twice
 pub record AreNumbered (names : List (List ℕ)) (slots : List ℕ) (others : List (Vec ℕ × ℕ)) : Type 0 where
   pub at : (name : List ℕ) → number_in names slots others name ≡ position (is_same name) names
   pub within : (name : List ℕ) (n : ℕ) → first_in (slot_at slots name) ≡ Some n → n < length names
   pub apart : (name : List ℕ) (n : ℕ) → lookup (is_key name) others ≡ Some n → position (is_same name) names ≡ Some n
+  pub own : (n : ℕ) → n < length names → position (is_same (slice_index_or names n [])) names ≡ Some n

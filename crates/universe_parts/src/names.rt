@@ -125,6 +125,16 @@ impl Names {
         self.others.get(name).copied()
     }
 
+    /// The number of a name, or `None` where it was not added. It is found at once where it is the number that is guessed.
+    pub fn number_near(&self, name: &[u8], guess: usize) -> Option<usize>
+        ensures { result ≡ position (is_same name.now) self.now }
+    {
+        if guess < self.list.len() && name == self.list.at(guess) {
+            return Some(guess);
+        }
+        self.number_of(name)
+    }
+
     /// The name with a number.
     pub fn at(&self, number: usize) -> &[u8]
         requires { number < length self.now }
