@@ -13,8 +13,8 @@ use std::marker::Model;
 #[derive(Clone, Copy, Debug, Drop)]
 pub struct Row {
     pub source: u32,
-    pub first: usize,
-    pub end: usize,
+    pub first: u32,
+    pub end: u32,
     pub soft: bool,
 }
 
@@ -37,6 +37,31 @@ impl Model for Tables {
     ghost invariant = { λ t. AreTables t.targets.items t.rows.items };
 }
 
+// Adds a row alone. Places have 32 bits; a table of more targets is taken for want of memory.
+fn push_row(
+    rows: &mut Vec<Row>,
+    source: u32,
+    first: usize,
+    end: usize,
+    soft: bool,
+) -> Result<(), NoMemory>
+    ensures { rows.new.items ≡ (if is_ok result then rows.old.items ++ record { source = source; first = first; end = end; soft = soft } ∷ [] else rows.old.items) }
+{
+    let Ok(first) = u32::try_from(first) else {
+        return Err(NoMemory);
+    };
+    let Ok(end) = u32::try_from(end) else {
+        return Err(NoMemory);
+    };
+    rows.push(Row {
+        source,
+        first,
+        end,
+        soft,
+    })?;
+    Ok(())
+}
+
 // Adds a row with its targets; nothing is added where memory is wanting.
 fn add_row(
     rows: &mut Vec<Row>,
@@ -51,13 +76,7 @@ fn add_row(
 {
     let first = table.len();
     table.extend_from_slice(targets)?;
-    let row = Row {
-        source,
-        first,
-        end: table.len(),
-        soft,
-    };
-    match rows.push(row) {
+    match push_row(rows, source, first, table.len(), soft) {
         Ok(()) => Ok(()),
         Err(_) => {
             table.truncate(first);
@@ -113,7 +132,7 @@ impl Tables {
         ensures { result.now ≡ (slice_index_or self.now dep no_dependency).targets }
     {
         let row = self.rows[dep];
-        &self.targets[row.first..row.end]
+        &self.targets[row.first as usize..row.end as usize]
     }
 
     /// Adds a dependency at the end.
