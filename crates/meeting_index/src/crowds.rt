@@ -18,7 +18,7 @@ use crate::crowd::Crowd;
 use crate::found::{Carriers, add_met};
 use crate::members::members;
 use crate::named::Name;
-use crate::rows::NamedNumbers;
+use crate::rows::{NamedNumbers, NumberRow};
 use choice_set::{NoMemory, make_rising};
 use deb_version::Version;
 use dep_fields::Op;
@@ -63,12 +63,31 @@ fn crowd_packages<'a>(
 ) -> Result<(), NoMemory>
     requires { AreRight (carriers_listed carriers.now) named.now crowds.old }
     ensures right { OnOk result (AreRight (carriers_listed carriers.now) named.now crowds.new) }
-    ensures there { OnOk result ((k : ℕ) (d : NumberRow) → k < length named.now.rows.items → ArePut (carriers_listed carriers.now) named.now crowds.new (slice_index_or named.now.rows.items k d).bytes.now) }
+    ensures there { OnOk result ((k : ℕ) (d : NumberRow) → k < length named.now.rows.items → is_crowd (slice_index_or named.now.rows.items k d).numbers.items ≡ true → ArePut (carriers_listed carriers.now) named.now crowds.new (slice_index_or named.now.rows.items k d).bytes.now) }
 {
     for row in named.rows() {
-        crowd_name(alloc, crowds, named, carriers, row.bytes)?;
+        crowd_row(alloc, crowds, named, carriers, row)?;
     }
     Ok(())
+}
+
+// Makes the crowd of a row's name, if the row is crowded and the name has no crowd.
+fn crowd_row<'a>(
+    alloc: Global,
+    crowds: &mut Crowds<'a>,
+    named: &NamedNumbers<'_, 'a>,
+    carriers: &Carriers<'_, '_, 'a>,
+    row: &NumberRow<'a>,
+) -> Result<(), NoMemory>
+    requires { AreRight (carriers_listed carriers.now) named.now crowds.old }
+    ensures right { OnOk result (AreRight (carriers_listed carriers.now) named.now crowds.new) }
+    ensures there { OnOk result (is_crowd row.now.numbers.items ≡ true → ArePut (carriers_listed carriers.now) named.now crowds.new row.now.bytes.now) }
+    ensures stay { OnOk result ((other : Name) → HasCrowd (carriers_listed carriers.now) named.now crowds.old other → HasCrowd (carriers_listed carriers.now) named.now crowds.new other) }
+{
+    if !is_crowd(row.numbers.as_slice()) {
+        return Ok(());
+    }
+    crowd_name(alloc, crowds, named, carriers, row.bytes)
 }
 
 // Makes the crowds of the other names.

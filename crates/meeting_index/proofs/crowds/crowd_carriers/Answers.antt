@@ -1,4 +1,4 @@
--- Each name that is crowded has a row, or stands among the others.
+-- Each name that is crowded has a crowded row, or stands among the others.
 use Rattle.std.proofs.Common.{◌≡◌, ◌<◌, ◌∙◌, ap, sym, refl, ℕ, List, [], Option, Some, None, true, get_or, arith, length, nat_lt, map}
 use Rattle.std.specs.List.{position}
 use Rattle.std.proofs.lemmas.Cmp.{nat_list_eq_equiv}
@@ -23,7 +23,7 @@ use Rattle.meeting_index.proofs.NamedRuns.{same-bytes}
 use Rattle.meeting_index.proofs.crowds.crowd_carriers.Goals as goal
 
 module _ (carriers : List Carrier) (named : NamedNumbers) (crowds : Crowds)
-    (rows : (k : ℕ) (d : NumberRow) → k < length named.rows.items → ArePut carriers named crowds (get_or named.rows.items k d).bytes.now)
+    (rows : (k : ℕ) (d : NumberRow) → k < length named.rows.items → is_crowd (get_or named.rows.items k d).numbers.items ≡ true → ArePut carriers named crowds (get_or named.rows.items k d).bytes.now)
     (others : (k : ℕ) (d : Named) → k < length named.others.names.items → ArePut carriers named crowds (get_or named.others.names.items k d).bytes.now) where
   put-crowd : (bytes : List ℕ) (name : Name) → ArePut carriers named crowds bytes → bytes ≡ name.bytes.now → is_crowd (numbers_at named name.bytes.now) ≡ true → HasCrowd carriers named crowds name
   put-crowd bytes name put is many =
@@ -43,13 +43,13 @@ module _ (carriers : List Carrier) (named : NamedNumbers) (crowds : Crowds)
       let found = position-Some (is_same bytes) named.names.now n [] at in
       let within : n < length items = let less = found.0 in omega (arith, less, named.rows_are.long) in
       let any = some-row items n within in
-      let some : nat_lt 0 (length (get_or items n any).numbers.items) ≡ true =
-      some-crowded (get_or items n any).numbers.items (ap is_crowd (sym (get_or-map row_numbers items n any [] within)) ∙ here) in
-      put-crowd (get_or items n any).bytes.now name (rows n any within)
+      let here_crowded : is_crowd (get_or items n any).numbers.items ≡ true = ap is_crowd (sym (get_or-map row_numbers items n any [] within)) ∙ here in
+      let some : nat_lt 0 (length (get_or items n any).numbers.items) ≡ true = some-crowded (get_or items n any).numbers.items here_crowded in
+      put-crowd (get_or items n any).bytes.now name (rows n any within here_crowded)
       (named.rows_are.bytes n any within some ∙ sym (same-bytes bytes (get_or named.names.now n []) found.1)) many
 
 pub returns : goal.returns
 returns c = λ name many.
     crowded (carriers_listed c.args.carriers.now) c.args.named.now c.crowd_others.new.crowds
-    (λ k d lt many other same. c.in_ok-crowd_others.ensures.stay other (c.in_ok-crowd_packages.ensures.there k d lt many other same))
+    (λ k d lt here many other same. c.in_ok-crowd_others.ensures.stay other (c.in_ok-crowd_packages.ensures.there k d lt here many other same))
     c.in_ok-crowd_others.ensures.there name (position (is_same name.bytes.now) c.args.named.now.names.now) refl many many
