@@ -41,6 +41,9 @@ fn is_still_out(session: &Session, job: &Job)
     let _ = session.history();
 }
 
+// How often a thread that waits for the turn lets others run before it parks: a park and its wake cost more than some turns.
+const PATIENCE: u32 = 1_000;
+
 // Waits for the turn, and takes the session with it. A turn is short: it spins at first, then lets other threads run, and parks last.
 pub(crate) fn enter<H: Wait>(rt: &H, turn: &TurnTable, seat: &mut TurnSeat)
     requires table { (seat.old.table_id ≡ turn.now.shared.table_id) × (turn.now.shared.table_id.words ≡ 1) × (turn.now.shared.table_id.slots ≡ 1) }
@@ -49,6 +52,7 @@ pub(crate) fn enter<H: Wait>(rt: &H, turn: &TurnTable, seat: &mut TurnSeat)
     ensures took { (y : Session) × (seat.new.me ≡ (holding y.rooms (informed seat.old.me.0.own y), (0, y) ∷ [])) × Took seat.old.me.0.own y }
 {
     let backoff = Backoff::new();
+    let mut patience = PATIENCE;
     let shared = &turn.shared;
     for _ in rt.forever() {
         let word = shared.peek(0);
@@ -57,11 +61,13 @@ pub(crate) fn enter<H: Wait>(rt: &H, turn: &TurnTable, seat: &mut TurnSeat)
             if found == word {
                 return;
             }
-        } else if backoff.is_completed() {
+        } else if patience == 0 {
             shared.park(rt, 0, (word % (1 << 32)) as u32);
             backoff.reset();
+            patience = PATIENCE;
         } else {
             backoff.snooze();
+            patience -= 1;
         }
     }
     unreachable!()
