@@ -76,7 +76,9 @@ pub fn list_requirements<'s, 'a>(
     let _versions = builder.parts().versions();
     let kept = list_installed(alloc, builder.parts(), versions)?;
     let all = MeetingIndex::new(alloc, native, versions, names)?;
-    let installed = MeetingIndex::new(alloc, native, kept.as_slice(), names)?;
+    // few versions are installed: they need no row for each package
+    let no_names = Names::new(alloc)?;
+    let installed = MeetingIndex::new(alloc, native, kept.as_slice(), &no_names)?;
     let indexes = Indexes { all, installed };
     let mut collected = Collected::new(alloc, builder);
     let mut room = Room {
