@@ -9,7 +9,6 @@ use Rattle.std.specs.declared.cmp.Ordering.{Ordering}
 use Rattle.std.specs.declared.cmp.Ordering.TheVariants.{Less, Equal, Greater}
 use Rattle.std.specs.FinMap.{nat_cmp-IsAntisymmetric}
 use Rattle.std.proofs.lemmas.Bool.{lt-ltb, ltb-true}
-use Rattle.std.proofs.lemmas.List.{length-map}
 use Rattle.std.proofs.lemmas.List.Sorted.{list_any-IsPermutation}
 use Rattle.lists.specs.Sets.{has}
 use Rattle.lists.proofs.Orders.{then_equal}
@@ -25,13 +24,12 @@ use Rattle.universe_model.proofs.Orders.{order-total}
 use Rattle.meeting_index.specs.Carriers.{Carrier}
 use Rattle.meeting_index.specs.Crowds.{AreRight, HasCrowd, IsCrowdOf, IsRealCrowd, crowds_have, finds_as, is_crowd, kept_has}
 use Rattle.meeting_index.specs.Fitting.{carried_number, carried_order, carried_parts, fits, fits_as, has_fitting, is_past, version_parts}
-use Rattle.meeting_index.specs.Named.{has_bytes, has_same, named_number, numbers_in}
+use Rattle.meeting_index.specs.Named.{has_same}
 use Rattle.meeting_index.specs.NameTables.{numbers_at}
 use Rattle.meeting_index.specs.declared.carried.Carried.{Carried}
 use Rattle.meeting_index.specs.declared.crowd.Crowd.{Crowd}
 use Rattle.meeting_index.specs.declared.crowds.Crowds.{Crowds}
 use Rattle.meeting_index.specs.declared.named.Name.{Name}
-use Rattle.meeting_index.specs.declared.named.Named.{Named}
 use Rattle.meeting_index.specs.declared.rows.NumberRow.{NumberRow}
 use Rattle.meeting_index.specs.declared.rows.NamedNumbers.{NamedNumbers}
 use Rattle.meeting_index.proofs.NamedRuns.{is_eq-same, same-bytes}
@@ -220,19 +218,6 @@ module _ (carriers : List Carrier) (named : NamedNumbers) where
       → AreRight carriers named crowds → has_same name other ≡ true → HasCrowd carriers named crowds other
   crowd-there crowds name other found some is right same =
       crowd-same crowds name other (same-bytes name.bytes.now other.bytes.now same) (there-cases crowds name found some is (right name))
-
--- a name that is crowded stands in the table
-filter-some : {X : Type 0} (test : X → Bool) (xs : List X) → nat_lt 16 (length (filter test xs)) ≡ true → list_any test xs ≡ true
-filter-some test [] many = many
-filter-some test (x ∷ xs) many =
-    elim (test x) as (λ b. nat_lt 16 (length (cond b (x ∷ filter test xs) (filter test xs))) ≡ true → (b || list_any test xs) ≡ true) [
-      | true ↦ λ _. refl
-      | false ↦ λ more. filter-some test xs more
-    ] many
-
-pub crowded-stands : (names : List Named) (bytes : List ℕ) → is_crowd (numbers_in names bytes) ≡ true → list_any (has_bytes bytes) names ≡ true
-crowded-stands names bytes many =
-    filter-some (has_bytes bytes) names (ap (nat_lt 16) (sym (length-map (filter (has_bytes bytes) names) named_number)) ∙ many)
 
 -- what is crowded has numbers
 pub some-crowded : (numbers : List ℕ) → is_crowd numbers ≡ true → nat_lt 0 (length numbers) ≡ true

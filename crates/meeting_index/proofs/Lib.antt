@@ -3,6 +3,7 @@ pub mod CarrierLists
 pub mod Covering
 pub mod CrowdLaws
 pub mod CrowdRanges
+pub mod Crowding
 pub mod Edges
 pub mod Fewness
 pub mod Finding

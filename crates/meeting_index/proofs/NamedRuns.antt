@@ -144,7 +144,7 @@ gt-apart Less e = refl
 gt-apart Equal e = absurd (cc)
 gt-apart Greater e = refl
 
-between : (o : Ordering) → is_le o ≡ true → is_lt o ≡ false → is_eq o ≡ true
+pub between : (o : Ordering) → is_le o ≡ true → is_lt o ≡ false → is_eq o ≡ true
 between Less le lt = absurd (cc)
 between Equal le lt = refl
 between Greater le lt = absurd (cc)

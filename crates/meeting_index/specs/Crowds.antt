@@ -1,5 +1,5 @@
 -- Names that many carry, and their carriers.
-use Rattle.std.specs.Prelude.{◌≡◌, ◌⊎◌, ℕ, Bool, true, false, ◌&&◌, List, length, nat_eq, nat_lt, Option, Some, None}
+use Rattle.std.specs.Prelude.{◌≡◌, ◌⊎◌, ◌<◌, ◌+◌, ℕ, Bool, true, false, ◌&&◌, List, length, nat_eq, nat_lt, slice_index_or, Option, Some, None}
 use Rattle.std.specs.List.{Contains, list_any, slice_get}
 use Rattle.std.specs.Map.{lookup}
 use Rattle.ascii.specs.Texts.{is_same}
@@ -15,6 +15,7 @@ use Rattle.meeting_index.specs.NameTables.{numbers_at}
 use Rattle.meeting_index.specs.declared.crowd.Crowd.{Crowd}
 use Rattle.meeting_index.specs.declared.crowds.Crowds.{Crowds}
 use Rattle.meeting_index.specs.declared.named.Name.{Name}
+use Rattle.meeting_index.specs.declared.named.Named.{Named}
 use Rattle.meeting_index.specs.declared.rows.NamedNumbers.{NamedNumbers}
 
 -- whether one of a crowd passes a bound, and stands for the version c
@@ -61,6 +62,11 @@ pub record HasEdge (crowds : Crowds) (bytes : List ℕ) (bound : VersionBound) (
 -- whether a name has too many carriers to look through them one by one
 abbrev pub is_crowd : List ℕ → Bool
 is_crowd numbers = nat_lt 16 (length numbers)
+
+-- the name at a place of names in order is also that of the sixteenth name behind it: so it is crowded
+pub record BeginsCrowd (names : List Named) (place : ℕ) : Type 0 where
+  pub within : place + 16 < length names
+  pub same : (d : Named) → is_same (slice_index_or names place d).bytes.now (slice_index_or names (place + 16) d).bytes.now ≡ true
 
 -- whether a carrier has a name, passes a bound, and stands for the version c
 abbrev pub meets_under : List ℕ → Option VersionBound → ℕ → Carrier → Bool

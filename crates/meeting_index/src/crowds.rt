@@ -6,7 +6,7 @@ ghost use Rattle.std.specs.Map.{lookup};
 ghost use Rattle.ascii.specs.Texts.{is_same};
 ghost use Rattle.dep_fields.specs.Relationships.{bound_of};
 ghost use Rattle.lists.specs.Sets.{has};
-ghost use Rattle.meeting_index.specs.Crowds.{ArePut, AreRight, HasCrowd, HasEdge, IsCrowdOf, crowds_have, is_crowd};
+ghost use Rattle.meeting_index.specs.Crowds.{ArePut, AreRight, BeginsCrowd, HasCrowd, HasEdge, IsCrowdOf, crowds_have, is_crowd};
 ghost use Rattle.meeting_index.specs.Finding.{Finds};
 ghost use Rattle.meeting_index.specs.Named.{has_same};
 ghost use Rattle.meeting_index.specs.Provided.{carriers_listed};
@@ -17,7 +17,7 @@ ghost use Rattle.meeting_index.specs.declared.rows.NumberRow.{NumberRow};
 use crate::crowd::Crowd;
 use crate::found::{Carriers, add_met};
 use crate::members::members;
-use crate::named::Name;
+use crate::named::{Name, Named};
 use crate::rows::{NamedNumbers, NumberRow};
 use choice_set::{NoMemory, make_rising};
 use deb_version::Version;
@@ -98,13 +98,36 @@ fn crowd_others<'a>(
     carriers: &Carriers<'_, '_, 'a>,
 ) -> Result<(), NoMemory>
     requires { AreRight (carriers_listed carriers.now) named.now crowds.old }
-    ensures there { OnOk result ((k : ℕ) (d : Named) → k < length named.now.others.names.items → ArePut (carriers_listed carriers.now) named.now crowds.new (slice_index_or named.now.others.names.items k d).bytes.now) }
+    ensures there { OnOk result ((k : ℕ) (d : Named) → BeginsCrowd named.now.others.names.items k → ArePut (carriers_listed carriers.now) named.now crowds.new (slice_index_or named.now.others.names.items k d).bytes.now) }
     ensures stay { OnOk result ((other : Name) → HasCrowd (carriers_listed carriers.now) named.now crowds.old other → HasCrowd (carriers_listed carriers.now) named.now crowds.new other) }
 {
-    for name in named.others() {
-        crowd_name(alloc, crowds, named, carriers, name.bytes)?;
+    let names = named.others();
+    for place in 0..names.len() {
+        crowd_run(alloc, crowds, named, carriers, &names[place..])?;
     }
     Ok(())
+}
+
+// Makes the crowd of the first of names, if it has none, and so many names behind it are the same that it is crowded.
+fn crowd_run<'a>(
+    alloc: Global,
+    crowds: &mut Crowds<'a>,
+    named: &NamedNumbers<'_, 'a>,
+    carriers: &Carriers<'_, '_, 'a>,
+    names: &[Named<'a>],
+) -> Result<(), NoMemory>
+    requires { AreRight (carriers_listed carriers.now) named.now crowds.old }
+    ensures right { OnOk result (AreRight (carriers_listed carriers.now) named.now crowds.new) }
+    ensures there { OnOk result ((d : Named) → BeginsCrowd names.now 0 → ArePut (carriers_listed carriers.now) named.now crowds.new (slice_index_or names.now 0 d).bytes.now) }
+    ensures stay { OnOk result ((other : Name) → HasCrowd (carriers_listed carriers.now) named.now crowds.old other → HasCrowd (carriers_listed carriers.now) named.now crowds.new other) }
+{
+    let (Some(name), Some(far)) = (names.first(), names.get(16)) else {
+        return Ok(());
+    };
+    if name.order(far).is_ne() {
+        return Ok(());
+    }
+    crowd_name(alloc, crowds, named, carriers, name.bytes)
 }
 
 // Makes the crowd of a name, if it is crowded and has none.

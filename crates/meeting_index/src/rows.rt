@@ -10,14 +10,15 @@ ghost use Rattle.meeting_index.specs.declared.named.Name.{Name};
 use crate::named::Named;
 use crate::table::SortedNumbers;
 use choice_set::NoMemory;
+use smallvec::SmallVec;
 use std::alloc::Global;
 use universe_parts::Names;
 
-/// The numbers at the name of a package, and the name, once there are any.
+/// The numbers at the name of a package, and the name, once there are any. Most have one or two.
 #[derive(Drop)]
 pub struct NumberRow<'a> {
     pub bytes: &'a [u8],
-    pub numbers: Vec<u32>,
+    pub numbers: SmallVec<u32, 4>,
 }
 
 /// Numbers by name. Those at the name of a package stand in its row, and those at other names in the order of these.
@@ -83,7 +84,7 @@ pub fn empty_rows<'a>(alloc: Global, count: usize) -> Result<Vec<NumberRow<'a>>,
 {
     let mut rows = Vec::with_capacity(alloc, count)?;
     for _row in 0..count {
-        let numbers = Vec::new(alloc);
+        let numbers = SmallVec::new(alloc);
         rows.push(NumberRow {
             bytes: &[],
             numbers,

@@ -3,12 +3,10 @@ use Rattle.std.proofs.Common.{◌≡◌, ◌<◌, ◌∙◌, ap, sym, refl, ℕ,
 use Rattle.std.specs.List.{position}
 use Rattle.std.proofs.lemmas.Cmp.{nat_list_eq_equiv}
 use Rattle.std.proofs.lemmas.List.{get_or-map}
-use Rattle.std.proofs.lemmas.List.Folds.{Any-from_list_any}
 use Rattle.std.proofs.lemmas.List.Quantifiers.{position-Some}
 use Rattle.ascii.specs.Texts.{is_same}
 use Rattle.meeting_index.specs.Carriers.{Carrier}
-use Rattle.meeting_index.specs.Crowds.{ArePut, HasCrowd, is_crowd}
-use Rattle.meeting_index.specs.Named.{has_bytes, named_bytes}
+use Rattle.meeting_index.specs.Crowds.{ArePut, BeginsCrowd, HasCrowd, is_crowd}
 use Rattle.meeting_index.specs.Provided.{carriers_listed}
 use Rattle.meeting_index.specs.Rows.{chosen, row_numbers}
 use Rattle.meeting_index.specs.NameTables.{numbers_at}
@@ -18,13 +16,14 @@ use Rattle.meeting_index.specs.declared.named.Name.{Name}
 use Rattle.meeting_index.specs.declared.named.Named.{Named}
 use Rattle.meeting_index.specs.declared.rows.NamedNumbers.{NamedNumbers}
 use Rattle.meeting_index.specs.declared.rows.NumberRow.{NumberRow}
-use Rattle.meeting_index.proofs.CrowdLaws.{crowded-stands, some-crowded, some-row}
+use Rattle.meeting_index.proofs.CrowdLaws.{some-crowded, some-row}
+use Rattle.meeting_index.proofs.Crowding.{crowd-begins, some-name}
 use Rattle.meeting_index.proofs.NamedRuns.{same-bytes}
 use Rattle.meeting_index.proofs.crowds.crowd_carriers.Goals as goal
 
 module _ (carriers : List Carrier) (named : NamedNumbers) (crowds : Crowds)
     (rows : (k : ℕ) (d : NumberRow) → k < length named.rows.items → is_crowd (get_or named.rows.items k d).numbers.items ≡ true → ArePut carriers named crowds (get_or named.rows.items k d).bytes.now)
-    (others : (k : ℕ) (d : Named) → k < length named.others.names.items → ArePut carriers named crowds (get_or named.others.names.items k d).bytes.now) where
+    (others : (k : ℕ) (d : Named) → BeginsCrowd named.others.names.items k → ArePut carriers named crowds (get_or named.others.names.items k d).bytes.now) where
   put-crowd : (bytes : List ℕ) (name : Name) → ArePut carriers named crowds bytes → bytes ≡ name.bytes.now → is_crowd (numbers_at named name.bytes.now) ≡ true → HasCrowd carriers named crowds name
   put-crowd bytes name put is many =
       put (ap (λ (b : List ℕ). is_crowd (numbers_at named b)) is ∙ many) name (ap (λ (b : List ℕ). is_same b name.bytes.now) is ∙ nat_list_eq_equiv.refl name.bytes.now)
@@ -34,9 +33,10 @@ module _ (carriers : List Carrier) (named : NamedNumbers) (crowds : Crowds)
       → is_crowd (numbers_at named name.bytes.now) ≡ true → HasCrowd carriers named crowds name
   crowded name None at here many =
       let names = named.others.names.items in
-      let stands = Any-from_list_any (has_bytes name.bytes.now) names (crowded-stands names name.bytes.now here) in
-      put-crowd (get_or names stands.0 stands.1).bytes.now name (others stands.0 stands.1 stands.2)
-      (ap named_bytes stands.3 ∙ same-bytes stands.1.bytes.now name.bytes.now stands.4) many
+      let found = crowd-begins names name.bytes.now named.others.sorted here in
+      let any = some-name names found.place (let within = found.begins.within in omega (arith, within)) in
+      put-crowd (get_or names found.place any).bytes.now name (others found.place any found.begins)
+      (same-bytes (get_or names found.place any).bytes.now name.bytes.now (found.here any)) many
   crowded name (Some n) at here many =
       let items = named.rows.items in
       let bytes = name.bytes.now in
