@@ -187,8 +187,22 @@ impl<'s, 'a> MeetingIndex<'s, 'a> {
         }
     }
 
-    // Adds the versions that meet one of the items of a group.
+    // Adds the versions that meet one of the items of a group. Most groups have one item.
     fn add_group(&self, group: &Group<'a>, targets: &mut Targets) -> Result<(), NoMemory>
+        ensures { OnOk result ((c : ℕ) → has targets.new.numbers.items c ≡ (has targets.old.numbers.items c || has (flat_map (carried self.now.native self.now.versions) (group_items group.now)) c)) }
+    {
+        let mut items = group.items();
+        let Some(first) = items.next() else {
+            return Ok(());
+        };
+        if items.next().is_none() {
+            return self.add_met_by(&first, &mut targets.numbers);
+        }
+        self.add_alternatives(group, targets)
+    }
+
+    // The same for a group of several items.
+    fn add_alternatives(&self, group: &Group<'a>, targets: &mut Targets) -> Result<(), NoMemory>
         ensures { OnOk result ((c : ℕ) → has targets.new.numbers.items c ≡ (has targets.old.numbers.items c || has (flat_map (carried self.now.native self.now.versions) (group_items group.now)) c)) }
     {
         if group.len() <= 8 {

@@ -7,7 +7,7 @@ use Rattle.dep_fields.specs.Relationships.{meaning}
 use Rattle.dep_fields.specs.declared.Item.{Item}
 use Rattle.meeting_index.specs.Carriers.{carried}
 use Rattle.meeting_index.proofs.Covering.{carried-moved}
-use Rattle.meeting_index.proofs.index.MeetingIndex.add_group.Goals as goal
+use Rattle.meeting_index.proofs.index.MeetingIndex.add_alternatives.Goals as goal
 
 pub returns : goal.returns
 returns c =
